@@ -1,0 +1,11 @@
+pub mod Words
+pub mod Nets
+pub mod Support
+pub mod Paths
+pub mod Marks
+pub mod Scans
+pub mod Downscan
+pub mod Completion
+pub mod Reasons
+pub mod Searches
+pub mod Checks

@@ -1,0 +1,55 @@
+-- Scans: rounds until one sets nothing, within a budget of rounds.
+use Prim.Native.Nat.{ℕ, zero, suc, _+_, _*_, _≤_, _<_}
+use mathlib.Core.Path.{_≡_}
+use mathlib.Core.Bool.{Bool, true, false, _&&_}
+use mathlib.Core.List.{List, [], _∷_}
+use lib.Dec.{eqb}
+use Rattle.theory.specs.Marks.{round, forward, kindly, forwardStart, kindStart}
+use Rattle.theory.specs.declared.Command.{Command}
+
+-- The marks after n rounds.
+unfoldable pub after : List Command → List ℕ → ℕ → List ℕ → List ℕ
+after cs ws zero m = m
+after cs ws (suc n) m = round cs ws (after cs ws n m)
+
+-- Two lists of marks are the same.
+unfoldable pub same : List ℕ → List ℕ → Bool
+same [] [] = true
+same [] (b ∷ m) = false
+same (a ∷ l) [] = false
+same (a ∷ l) (b ∷ m) = eqb a b && same l m
+
+-- What a scan gives: whether it ended within its budget, the rounds run, and the marks left.
+pub record Scan : Type 0 where
+  pub done : Bool
+  pub count : ℕ
+  pub marks : List ℕ
+
+-- A scan that has run `count` rounds and may run `budget` more.
+unfoldable pub rounds : List Command → List ℕ → ℕ → ℕ → List ℕ → Scan
+rounds cs ws count zero m = record { done = false; count = count; marks = m }
+rounds cs ws count (suc budget) m =
+    elim (same m (round cs ws m)) [
+      | true ↦ record { done = true; count = suc count; marks = round cs ws m }
+      | false ↦ rounds cs ws (suc count) budget (round cs ws m)
+    ]
+
+-- The forward scan from x and the kind scan from y over n nodes.
+abbrev pub forwardScan : ℕ → List ℕ → ℕ → ℕ → Scan
+forwardScan n ws x budget = rounds forward ws 0 budget (forwardStart n x)
+
+abbrev pub kindScan : ℕ → List ℕ → ℕ → ℕ → Scan
+kindScan n ws y budget = rounds kindly ws 0 budget (kindStart n y)
+
+-- c is the count: round c is the first that sets nothing, itself included in the count.
+pub record Count (cs : List Command) (ws m : List ℕ) (c : ℕ) : Type 0 where
+  pub last : ℕ
+  pub number : c ≡ suc last
+  pub quiet : after cs ws (suc last) m ≡ after cs ws last m
+  pub first : (j : ℕ) → j < last → after cs ws (suc j) m ≡ after cs ws j m → ⊥
+
+-- What a scan of the marks m with a budget gives: ended within it, or spent before the last round (row 6).
+pub data Scanned (cs : List Command) (ws m : List ℕ) (budget : ℕ) (r : Scan) : Type 0 where
+  ended : r .done ≡ true → Count cs ws m (r .count) → r .count ≤ budget → r .marks ≡ after cs ws (r .count) m → Scanned cs ws m budget r
+  spent : r .done ≡ false → ((j : ℕ) → j < budget → after cs ws (suc j) m ≡ after cs ws j m → ⊥) → r .count ≡ budget → r .marks ≡ after cs ws budget m
+      → Scanned cs ws m budget r

@@ -1,0 +1,29 @@
+-- The paper's row tells which refusal it is.
+use Prim.Native.Nat.{ℕ, zero, suc, _-_}
+use mathlib.Core.Path.{_≡_, refl, sym, ap, _∙_}
+use Rattle.words.specs.Table.{Row, row, refusalRow}
+use Rattle.words.specs.declared.Refusal.{Refusal}
+use Rattle.words.specs.declared.Refusal.the-variants.{TooManyNodes, TooManyWords, IllegalWord, BadQuestion, ShortBuffer}
+
+-- The refusal of a number less one, and a value.
+abbrev refusalOf : ℕ → ℕ → Refusal
+refusalOf zero i = TooManyNodes
+refusalOf (suc zero) i = TooManyWords
+refusalOf (suc (suc zero)) i = IllegalWord i
+refusalOf (suc (suc (suc zero))) i = BadQuestion
+refusalOf (suc (suc (suc (suc n)))) i = ShortBuffer
+
+-- The refusal of a row.
+abbrev pub refusalAt : Row → Refusal
+refusalAt r = refusalOf (r .number - 1) (r .first)
+
+pub refusal-at-row : (r : Refusal) → refusalAt (refusalRow r) ≡ r
+refusal-at-row TooManyNodes = refl
+refusal-at-row TooManyWords = refl
+refusal-at-row (IllegalWord i) = refl
+refusal-at-row BadQuestion = refl
+refusal-at-row ShortBuffer = refl
+
+-- No two refusals have one row.
+pub refusal-row-one-to-one : (r q : Refusal) → refusalRow r ≡ refusalRow q → r ≡ q
+refusal-row-one-to-one r q e = sym (refusal-at-row r) ∙ ap refusalAt e ∙ refusal-at-row q
