@@ -1,2 +1,3 @@
 pub mod Booleans
 pub mod Bits
+pub mod Over

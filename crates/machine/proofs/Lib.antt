@@ -1,0 +1,5 @@
+pub mod Turns
+pub mod Starts
+pub mod Outcomes
+pub mod ScanRows
+pub mod Readings

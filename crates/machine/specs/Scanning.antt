@@ -1,0 +1,65 @@
+-- The outcome of the forward scan and of the kind scan, by the number table from top to bottom.
+use Prim.Native.Nat.{ℕ, _+_}
+use mathlib.Core.Bool.{Bool, true, false, cond, _&&_, _||_}
+use mathlib.Core.List.{List, _++_}
+use lib.Dec.{ltb, leb}
+use lib.ListN.{length, drop}
+use Rattle.theory.specs.Marks.{forward, kindly, forwardStart, kindStart}
+use Rattle.theory.specs.Scans.{Scan, rounds}
+use Rattle.theory.specs.declared.Command.{Command}
+use Rattle.words.specs.Table.{checkNet, Row, row, refusalRow}
+use Rattle.words.specs.declared.Refusal.{Refusal}
+use Rattle.words.specs.declared.Refusal.the-variants.{BadQuestion, ShortBuffer}
+use Rattle.words.specs.declared.Checked.{Checked}
+use Rattle.words.specs.declared.Checked.the-variants as checked
+use Rattle.machine.specs.declared.Scanned.{Scanned}
+use Rattle.machine.specs.declared.Scanned.the-variants.{Done, Spent, Refused}
+
+-- What a call leaves: its answer and the marks.
+pub record Outcome : Type 0 where
+  pub answer : Scanned
+  pub marks : List ℕ
+
+abbrev pub outcome : Scanned → List ℕ → Outcome
+outcome r m = record { answer = r; marks = m }
+
+-- The commands of a round and the marks at the start: of the kind scan, or of the forward scan.
+abbrev pub commands : Bool → List Command
+commands kind = cond kind kindly forward
+
+abbrev pub start : Bool → ℕ → ℕ → List ℕ
+start kind n x = cond kind (kindStart n x) (forwardStart n x)
+
+-- Row 4: the start is no node, or in the kind scan an object.
+abbrev pub badStart : Bool → ℕ → ℕ → ℕ → Bool
+badStart kind o n x = leb n x || (kind && ltb x o)
+
+-- Row 6 or 0: the count, the marks of the nodes, and past them the bytes as they were.
+abbrev pub ran : Scan → List ℕ → Outcome
+ran s past = outcome (cond (s .done) (Done (s .count)) (Spent (s .count))) (s .marks ++ past)
+
+-- Rows 4, 5, 6 and 0 for a net of n nodes.
+unfoldable pub scanNet : Bool → ℕ → ℕ → List ℕ → ℕ → ℕ → List ℕ → Outcome
+scanNet kind o n ws x budget m =
+    cond (badStart kind o n x) (outcome (Refused BadQuestion) m)
+    (cond (ltb (length m) n) (outcome (Refused ShortBuffer) m)
+    (ran (rounds (commands kind) ws 0 budget (start kind n x)) (drop n m)))
+
+-- Rows 1, 2 and 3 first.
+unfoldable pub scanChecked : Bool → ℕ → List ℕ → ℕ → ℕ → List ℕ → Checked → Outcome
+scanChecked kind o ws x budget m (checked.Nodes n) = scanNet kind o n ws x budget m
+scanChecked kind o ws x budget m (checked.Refused r) = outcome (Refused r) m
+
+-- The forward scan from x.
+abbrev pub forwardScanned : ℕ → ℕ → List ℕ → ℕ → ℕ → List ℕ → Outcome
+forwardScanned o k ws x budget m = scanChecked false o ws x budget m (checkNet o k ws)
+
+-- The kind scan from y.
+abbrev pub kindScanned : ℕ → ℕ → List ℕ → ℕ → ℕ → List ℕ → Outcome
+kindScanned o k ws y budget m = scanChecked true o ws y budget m (checkNet o k ws)
+
+-- The paper's number and values for each answer.
+abbrev pub scanRow : Scanned → Row
+scanRow (Done count) = row 0 count 0
+scanRow (Spent count) = row 6 count 0
+scanRow (Refused r) = refusalRow r
