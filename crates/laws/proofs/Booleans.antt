@@ -36,6 +36,15 @@ pub or-split : {A : Type 0} (p q : Bool) → (p || q) ≡ true → (p ≡ true �
 or-split true q h f g = f refl
 or-split false q h f g = g h
 
+-- Neither of two.
+pub or-none-left : (p q : Bool) → (p || q) ≡ false → p ≡ false
+or-none-left true q h = h
+or-none-left false q h = refl
+
+pub or-none-right : (p q : Bool) → (p || q) ≡ false → q ≡ false
+or-none-right true q h = clash (rw h refl)
+or-none-right false q h = h
+
 -- What is not true is false.
 pub not-so : (p : Bool) → (p ≡ true → ⊥) → p ≡ false
 not-so true h = absurd (h refl)

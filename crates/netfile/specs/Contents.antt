@@ -4,6 +4,7 @@ use mathlib.Core.Bool.{Bool, true, false, cond, _&&_, _||_}
 use mathlib.Core.List.{List, [], _∷_}
 use lib.Dec.{ltb, leb, eqb}
 use lib.ListN.{length, getD, take, drop}
+use Rattle.words.specs.Table.{Row, row}
 use Rattle.netfile.specs.declared.Entry.{Entry}
 use Rattle.netfile.specs.declared.Entry.the-variants.{Open, Closed}
 use Rattle.netfile.specs.declared.Contents.{Contents}
@@ -63,3 +64,8 @@ bodiesOf s (Malformed p) = [] ∷ [] ∷ [] ∷ []
 unfoldable pub u32s : ℕ → List ℕ → List ℕ
 u32s zero b = []
 u32s (suc j) b = u32At b 0 ∷ u32s j (drop 4 b)
+
+-- The paper's number and value for each answer: 0 with the end of the words, or 9 with the place.
+abbrev pub contentsRow : Contents → Row
+contentsRow (Bodies e) = row 0 e 0
+contentsRow (Malformed place) = row 9 place 0

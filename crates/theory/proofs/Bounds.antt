@@ -16,6 +16,7 @@ use Rattle.theory.specs.declared.Command.{Command}
 use Rattle.theory.proofs.Inside.{Inside, legal-inside}
 use Rattle.theory.proofs.Growth.{size, Set, kept, more, Step, Puts, mark-more, mark-step, step-none, step-then, round-step, size-low}
 use Rattle.theory.proofs.Commands.{mark-length, mark-at}
+use Rattle.theory.proofs.Machine.{after-step}
 use Rattle.theory.proofs.Rounds.{same-refl, rounds-none, rounds-last, rounds-more}
 use Rattle.theory.proofs.Starts.{blank-none, blank-byte, forward-long, kind-long, forward-puts, kindly-puts, forward-puts-8, kindly-puts-8}
 use Rattle.theory.proofs.Budgets.{Last, last-round, spent-marks, ends-within}
@@ -69,6 +70,14 @@ module _ (n h : ℕ) (ws : List ℕ) (e : Inside n ws) (cs : List Command) (p : 
     bounded b g =
         let t = last-round cs ws m (suc b) (ends-one-more b (omega arith)) in
         (suc (t .at), t .counted, omega (arith, count-bound (suc b), t .count))
+
+-- A scan leaves as many marks as it found.
+pub scan-long : (n : ℕ) (ws : List ℕ) → Inside n ws → (cs : List Command) → Puts 8 cs → (b : ℕ) (m : List ℕ) → n ≤ length m → length (rounds cs ws 0 b m .marks) ≡ length m
+scan-long n ws e cs p b m r = at (rounds cs ws 0 b m .done) refl
+  where
+    at : (q : Bool) → rounds cs ws 0 b m .done ≡ q → length (rounds cs ws 0 b m .marks) ≡ length m
+    at true d = let t = last-round cs ws m b d in ap length (t .marks) ∙ after-step n ws e cs p 8 p (t .at) m r .long
+    at false d = ap length (spent-marks cs ws m b d .1) ∙ after-step n ws e cs p 8 p b m r .long
 
 blank-below : (n h : ℕ) → Below n h (blank n)
 blank-below n h v l = rw (blank-byte n v) (positive h)
@@ -128,3 +137,8 @@ module _ (o k : ℕ) (ws : List ℕ) (legal : LegalWords o k ws) (x : ℕ) (hx :
   kind-done budget h =
       let (c, d, l) = kind-counted in
       ends-within kindly ws (kindStart (o + k) x) c budget d (omega arith)
+
+-- The marks of a forward scan are those of its nodes.
+pub forward-scan-long : (o k : ℕ) (ws : List ℕ) → LegalWords o k ws → (x : ℕ) → x < o + k → (b : ℕ) → length (forwardScan (o + k) ws x b .marks) ≡ o + k
+forward-scan-long o k ws legal x hx b =
+    scan-long (o + k) ws (legal-inside o k ws legal) forward forward-puts-8 b (forwardStart (o + k) x) (omega (arith, forward-long (o + k) x hx)) ∙ forward-long (o + k) x hx

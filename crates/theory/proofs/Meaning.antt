@@ -2,7 +2,7 @@
 use Prim.Native.Nat.{ℕ, zero, suc, _+_, _*_, _≤_, _<_}
 use mathlib.Core.Path.{_≡_, refl, subst, sym, _∙_, ap}
 use mathlib.Core.List.{List, [], _∷_}
-use mathlib.Core.Logic.{_⊎_, inl, inr, _↔_}
+use mathlib.Core.Logic.{_⊎_, inl, inr, _↔_, ⊎-elim}
 use native.Mathlib.Omega.{arith}
 use lib.ListN.{length, getD}
 use Rattle.theory.specs.Words.{Sign, is, isnt, number}
@@ -11,7 +11,8 @@ use Rattle.theory.specs.Support.{Supported}
 use Rattle.theory.specs.Paths.{Crossing}
 use Rattle.theory.specs.Marks.{T, F, U, forward, kindly, round, forwardStart, kindStart}
 use Rattle.theory.specs.Scans.{after}
-use Rattle.theory.proofs.Reach.{Up, here, step, Apart, trans, turn, supported-is-reached}
+use Rattle.theory.proofs.Reach.{Up, here, step, Apart, trans, turn, ends-in, supported-is-reached}
+use Rattle.theory.proofs.Joining.{ends}
 use Rattle.theory.proofs.Inside.{Inside, legal-inside, legal-links}
 use Rattle.theory.proofs.Machine.{At, Within, Follows, Every, quiet-closed, after-long, after-keeps, sound}
 use Rattle.theory.proofs.Starts.{forward-long, kind-long, forward-within, kind-within, forward-has, kind-has-T, kind-has-U, forward-puts-8, kindly-puts-8}
@@ -168,15 +169,19 @@ module _ (o k : ℕ) (ws : List ℕ) (legal : LegalWords o k ws) (y : ℕ) (hy :
   kind-sound = sound (o + k) ws (legal-inside o k ws legal) kindly kindly-puts-8 (FromKind (Links ws) y) (kindly-follows (Links ws) y) K kind-room
       (kind-within (o + k) y (hy .high) (FromKind (Links ws) y) (here refl) (here refl))
 
-  -- After any number of rounds: T at x means x → y, F means x ↛ y, at objects too; U at a kind z means y → z.
+  -- After any number of rounds: T at x means x → y, F means x ↛ y, at objects too; U at z means y → z.
   pub kind-sound-yes : (i x : ℕ) → At (after kindly ws i K) T x → Supported o k (Links ws) x y is
   kind-sound-yes i x a = exactly-is o k ws legal x y hy .0 (kind-sound i T x a)
 
   pub kind-sound-no : (i x : ℕ) → At (after kindly ws i K) F x → Supported o k (Links ws) x y isnt
   kind-sound-no i x a = exactly-isnt o k ws legal x y hy .0 (turn (kind-sound i F x a))
 
-  pub kind-sound-up : (i z : ℕ) → Kind o k z → At (after kindly ws i K) U z → Supported o k (Links ws) y z is
-  kind-sound-up i z h a = exactly-is o k ws legal y z h .0 (kind-sound i U z a)
+  -- U never reaches an object.
+  pub kind-U-kinds : (i z : ℕ) → At (after kindly ws i K) U z → Kind o k z
+  kind-U-kinds i z a = ⊎-elim (λ e. subst (Kind o k) e hy) (λ h. h) (ends-in o k (Links ws) (legal-links o k ws legal) (kind-sound i U z a))
+
+  pub kind-sound-up : (i z : ℕ) → At (after kindly ws i K) U z → Supported o k (Links ws) y z is
+  kind-sound-up i z a = exactly-is o k ws legal y z (kind-U-kinds i z a) .0 (kind-sound i U z a)
 
   module _ (i : ℕ) (quiet : round kindly ws (after kindly ws i K) ≡ after kindly ws i K) where
     kind-all : (j x : ℕ) → FromKind (Links ws) y j x → At (after kindly ws i K) j x
@@ -193,6 +198,6 @@ module _ (o k : ℕ) (ws : List ℕ) (legal : LegalWords o k ws) (y : ℕ) (hy :
     pub kind-no : (x : ℕ) → At (after kindly ws i K) F x ↔ Supported o k (Links ws) x y isnt
     kind-no x = (kind-sound-no i x, λ s. kind-all F x (turn (exactly-isnt o k ws legal x y hy .1 s)))
 
-    -- At the last round: U at a kind z exactly if y → z is supported.
-    pub kind-up : (z : ℕ) → Kind o k z → At (after kindly ws i K) U z ↔ Supported o k (Links ws) y z is
-    kind-up z h = (kind-sound-up i z h, λ s. kind-all U z (exactly-is o k ws legal y z h .1 s))
+    -- At the last round: U at z exactly if y → z is supported.
+    pub kind-up : (z : ℕ) → At (after kindly ws i K) U z ↔ Supported o k (Links ws) y z is
+    kind-up z = (kind-sound-up i z, λ s. kind-all U z (exactly-is o k ws legal y z (ends o k (Links ws) (legal-links o k ws legal) y z is s .1) .1 s))

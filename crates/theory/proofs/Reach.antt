@@ -47,7 +47,7 @@ module _ (o k : ℕ) (L : Statements) (legal : Legal o k L) where
   after-link h (inr g) = g
 
   -- what is reached is the start or a kind
-  ends-in : {x y : ℕ} → Up L y x → (x ≡ y) ⊎ Kind o k y
+  pub ends-in : {x y : ℕ} → Up L y x → (x ≡ y) ⊎ Kind o k y
   ends-in (here e) = inl e
   ends-in (step {x = x} {z = z} l u) = inr (after-link (legal .head x z is l) (ends-in u))
 

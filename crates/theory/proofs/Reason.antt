@@ -22,12 +22,12 @@ use Rattle.theory.proofs.Shortest.{best-shortest}
 use Rattle.theory.proofs.Lemma1.{lemma1}
 
 -- What the computed reason is: the shortest path x, xs; ys, as states and as it is written.
-pub record Reason (n : ℕ) (ws : List ℕ) (x y : ℕ) (s : Sign) : Type 0 where
+pub record Reason (o k : ℕ) (ws : List ℕ) (x y : ℕ) (s : Sign) : Type 0 where
   pub xs : List ℕ
   pub ys : List ℕ
-  pub states : reasonStates n s ws x y ≡ coded n xs ys
-  pub list : reasonList n x (reasonStates n s ws x y) ≡ written x xs ys
-  pub shortest : Shortest n (Links ws) x y s xs ys
+  pub states : reasonStates (o + k) s ws x y ≡ coded (o + k) xs ys
+  pub list : reasonList (o + k) x (reasonStates (o + k) s ws x y) ≡ written x xs ys
+  pub shortest : Shortest o k (Links ws) x y s xs ys
 
 -- A reason has as many links as x is away from the end.
 pub states-length : (n : ℕ) (s : Sign) (ws : List ℕ) (x y : ℕ) → length (reasonStates n s ws x y) ≡ getD (distances n s ws y) x never
@@ -89,7 +89,7 @@ module _ (o k : ℕ) (ws : List ℕ) (net : Net o k ws) (x : ℕ) (node : x < o 
       (distances-listed o k ws net y kind s) x (omega arith) h)
 
   -- The computed reason is the shortest path.
-  pub reason-shortest : getD (distances n s ws y) x never < never → Reason n ws x y s
+  pub reason-shortest : getD (distances n s ws y) x never < never → Reason o k ws x y s
   reason-shortest h =
       let (xs, ys, e, p) = best-shortest o k (Links ws) legal x node y kind s (reasonStates n s ws x y) (states-best h) in
       record { xs = xs; ys = ys; states = e; list = ap (reasonList n x) e ∙ list-written n x xs ys (strict-below o k (Links ws) legal x y s xs ys (p .path)); shortest = p }

@@ -49,18 +49,18 @@ module _ (o k : ℕ) (ws : List ℕ) (legal : LegalWords o k ws) where
         let t = last-round kindly ws (kindStart (o + k) y) b d in
         rw (t .marks) (kind-no o k ws legal y hy (t .at) (t .quiet) x)
 
-    -- And U at a kind z exactly if y → z is supported.
-    pub kind-exact-up : kindScan (o + k) ws y b .done ≡ true → (z : ℕ) → Kind o k z → At (kindScan (o + k) ws y b .marks) U z ↔ Supported o k (Links ws) y z is
-    kind-exact-up d z h =
+    -- And U at z exactly if y → z is supported.
+    pub kind-exact-up : kindScan (o + k) ws y b .done ≡ true → (z : ℕ) → At (kindScan (o + k) ws y b .marks) U z ↔ Supported o k (Links ws) y z is
+    kind-exact-up d z =
         let t = last-round kindly ws (kindStart (o + k) y) b d in
-        rw (t .marks) (kind-up o k ws legal y hy (t .at) (t .quiet) z h)
+        rw (t .marks) (kind-up o k ws legal y hy (t .at) (t .quiet) z)
 
     pub kind-spent : kindScan (o + k) ws y b .done ≡ false → (x : ℕ) (s : Sign) → At (kindScan (o + k) ws y b .marks) (markerOf s) x → Supported o k (Links ws) x y s
     kind-spent d x is a = kind-sound-yes o k ws legal y hy b x (rw (spent-marks kindly ws (kindStart (o + k) y) b d .1) at a)
     kind-spent d x isnt a = kind-sound-no o k ws legal y hy b x (rw (spent-marks kindly ws (kindStart (o + k) y) b d .1) at a)
 
-    pub kind-spent-up : kindScan (o + k) ws y b .done ≡ false → (z : ℕ) → Kind o k z → At (kindScan (o + k) ws y b .marks) U z → Supported o k (Links ws) y z is
-    kind-spent-up d z h a = kind-sound-up o k ws legal y hy b z h (rw (spent-marks kindly ws (kindStart (o + k) y) b d .1) at a)
+    pub kind-spent-up : kindScan (o + k) ws y b .done ≡ false → (z : ℕ) → At (kindScan (o + k) ws y b .marks) U z → Supported o k (Links ws) y z is
+    kind-spent-up d z a = kind-sound-up o k ws legal y hy b z (rw (spent-marks kindly ws (kindStart (o + k) y) b d .1) at a)
 
   -- The two sides agree: y's byte after the scan from x, and x's after the scan from y.
   pub sides-agree : (x y : ℕ) → x < o + k → Kind o k y → (b c : ℕ) → forwardScan (o + k) ws x b .done ≡ true → kindScan (o + k) ws y c .done ≡ true → (s : Sign)

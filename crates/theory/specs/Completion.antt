@@ -1,6 +1,6 @@
 -- Completion: all supported words, ascending, none twice.
 use Prim.Native.Nat.{ℕ, zero, suc, _+_, _*_, _≤_}
-use mathlib.Core.Bool.{Bool, true, false, cond}
+use mathlib.Core.Bool.{cond}
 use mathlib.Core.List.{List, [], _∷_, _++_, List·Memᴰ}
 use mathlib.Core.Logic.{_↔_}
 use lib.ListN.{getD}
@@ -20,7 +20,7 @@ pub record Completed (o k : ℕ) (ws out : List ℕ) : Type 0 where
   pub ascending : Ascending 0 out
   pub exact : (w : ℕ) → List·Memᴰ w out ↔ Supported o k (Links ws) (tailOf w) (headOf w) (signOf w)
 
--- The marks of a forward scan from x that has its full budget, 2N rounds.
+-- The marks of a forward scan from x that has its full budget, 2N rounds, which is never spent.
 abbrev pub fullMarks : ℕ → ℕ → List ℕ → ℕ → List ℕ
 fullMarks o k ws x = forwardScan (o + k) ws x (2 * (o + k)) .marks
 

@@ -5,7 +5,7 @@ use mathlib.Core.List.{List, [], _∷_}
 use lib.Dec.{eqb}
 use lib.ListN.{getD, set, replicate}
 use lib.Bits.{bitOr}
-use Rattle.theory.specs.Words.{is, isnt, number, tailOf, headOf, parity}
+use Rattle.theory.specs.Words.{tailOf, headOf, parity}
 use Rattle.theory.specs.declared.Command.{Command}
 
 -- The markers T, F and U: marker j of a byte, 0 to 7, is worth 2 ^ j, so these are 1, 2 and 4.

@@ -1,14 +1,12 @@
 -- The shortest reason: a path without repeats, its length, the tie rule, and the distances that lead along it.
 -- States: v stands for node v in the first part, n + v for node v in the second.
-use Prim.Native.Nat.{ℕ, zero, suc, _+_, _-_, _≤_, _<_}
+use Prim.Native.Nat.{ℕ, suc, _+_, _≤_, _<_}
 use mathlib.Core.Path.{_≡_}
-use mathlib.Core.Bool.{Bool, true, false, cond, _&&_}
 use mathlib.Core.List.{List, [], _∷_, _++_, map}
 use mathlib.Core.Logic.{_⊎_}
-use lib.Dec.{eqb, ltb}
-use lib.ListN.{length, getD, set, replicate}
-use Rattle.theory.specs.Words.{Sign, is, isnt, tailOf, headOf, parity}
-use Rattle.theory.specs.Nets.{Statements}
+use lib.ListN.{length}
+use Rattle.theory.specs.Words.{Sign, is, isnt}
+use Rattle.theory.specs.Nets.{Statements, Kind}
 use Rattle.theory.specs.Paths.{lastOf, Crossing}
 
 -- First and second parts in which each step is a link.
@@ -20,7 +18,7 @@ abbrev pub SecondLinks : Statements → ℕ → List ℕ → Type 0
 SecondLinks L y [] = Unit {0}
 SecondLinks L y (z ∷ zs) = L z y is × SecondLinks L z zs
 
--- A path from x to y in which no step of either part repeats a kind. It has as many links as xs and ys have nodes.
+-- A path from x to y in which each step of either part is a link, so none only repeats a kind. It has as many links as xs and ys have nodes.
 abbrev pub Strict : Statements → ℕ → List ℕ → List ℕ → ℕ → Sign → Type 0
 Strict L x xs [] y is = FirstLinks L x xs × (lastOf x xs ≡ y)
 Strict L x xs [] y isnt = ⊥
@@ -38,11 +36,12 @@ Before [] q = Unit {0}
 Before (a ∷ p) [] = ⊥
 Before (a ∷ p) (b ∷ q) = (a < b) ⊎ ((a ≡ b) × Before p q)
 
--- The reason: a path without repeats that has fewest links, and is the first of those.
-pub record Shortest (n : ℕ) (L : Statements) (x y : ℕ) (s : Sign) (xs ys : List ℕ) : Type 0 where
+-- The reason: a path to a kind, without repeats, that has fewest links, and is the first of those.
+pub record Shortest (o k : ℕ) (L : Statements) (x y : ℕ) (s : Sign) (xs ys : List ℕ) : Type 0 where
+  pub kind : Kind o k y
   pub path : Strict L x xs ys y s
   pub fewest : (us vs : List ℕ) → Strict L x us vs y s → length xs + length ys ≤ length us + length vs
-  pub first : (us vs : List ℕ) → Strict L x us vs y s → length us + length vs ≡ length xs + length ys → Before (coded n xs ys) (coded n us vs)
+  pub first : (us vs : List ℕ) → Strict L x us vs y s → length us + length vs ≡ length xs + length ys → Before (coded (o + k) xs ys) (coded (o + k) us vs)
 
 -- A reason as it is written: size of the first part, size of the second, the nodes.
 abbrev pub written : ℕ → List ℕ → List ℕ → List ℕ
@@ -64,10 +63,11 @@ abbrev pub goal : ℕ → Sign → ℕ → ℕ
 goal n is y = y
 goal n isnt y = n + y
 
--- A place of the scratch for the state s: the fewest links from there to the end, or 65,535 where there is no way.
+-- What a place of the scratch holds where there is no way.
 abbrev pub never : ℕ
 never = 65535
 
+-- What the place of the state s holds: the fewest links from there to the end t, or that there is no way.
 pub data Distance (E : ℕ → ℕ → Type 0) (t s d : ℕ) : Type 0 where
   reached : d < never → (p : List ℕ) → Route E t s p → length p ≡ d → ((q : List ℕ) → Route E t s q → d ≤ length q) → Distance E t s d
   lost : d ≡ never → ((q : List ℕ) → Route E t s q → ⊥) → Distance E t s d

@@ -1,5 +1,5 @@
 -- The supported set: the smallest that contains the links L and satisfies (3.1) to (3.5).
-use Prim.Native.Nat.{ℕ, _+_, _<_}
+use Prim.Native.Nat.{ℕ, _<_}
 use Rattle.theory.specs.Words.{Sign, is, isnt}
 use Rattle.theory.specs.Nets.{Statements, Kind}
 

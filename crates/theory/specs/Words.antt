@@ -1,5 +1,5 @@
 -- Link words: a statement's tail, head and sign in one number.
-use Prim.Native.Nat.{ℕ, zero, suc, _+_, _*_, _/_, _%_, _≤_, _<_}
+use Prim.Native.Nat.{ℕ, zero, suc, _+_, _*_, _/_, _%_}
 
 -- The two signs: "is" (→), written 0, and "is not" (↛), written 1.
 pub data Sign : Type 0 where

@@ -14,7 +14,7 @@ use Rattle.theory.specs.Words.{nodeLimit, wordLimit}
 use Rattle.theory.specs.Nets.{LegalWord, LegalWords, Net}
 use Rattle.theory.proofs.Inside.{at-member}
 use Rattle.words.specs.Legal.{legal, legalPrefix}
-use Rattle.words.specs.Table.{checkNet, refusalRow}
+use Rattle.words.specs.Table.{checkNet, checkedRow}
 use Rattle.words.specs.declared.Refusal.the-variants.{TooManyNodes, TooManyWords, IllegalWord}
 use Rattle.words.specs.declared.Checked.{Checked}
 use Rattle.words.specs.declared.Checked.the-variants.{Nodes, Refused}
@@ -22,12 +22,10 @@ use Rattle.words.proofs.Legality.{legal-means, prefix-legal, prefix-ill
 
 -- A check's number in the paper's table, and the value that goes with it.
 abbrev numberOf : Checked → ℕ
-numberOf (Nodes n) = 0
-numberOf (Refused r) = refusalRow r .number
+numberOf c = checkedRow c .number
 
 abbrev valueOf : Checked → ℕ
-valueOf (Nodes n) = n
-valueOf (Refused r) = refusalRow r .first
+valueOf c = checkedRow c .first
 
 -- Checks with different numbers differ.
 apart : {A : Type 0} {p q : Checked} → p ≡ q → eqb (numberOf p) (numberOf q) ≡ false → A

@@ -43,3 +43,8 @@ refusalRow TooManyWords = row 2 0 0
 refusalRow (IllegalWord i) = row 3 i 0
 refusalRow BadQuestion = row 4 0 0
 refusalRow ShortBuffer = row 5 0 0
+
+-- The row of each answer of the check of a net: 0 with the number of nodes, or the refusal's.
+abbrev pub checkedRow : Checked → Row
+checkedRow (Nodes n) = row 0 n 0
+checkedRow (Refused r) = refusalRow r

@@ -1,0 +1,91 @@
+// Rows 1 to 4 of the number table: the net, its words, and the nodes that a call names.
+ghost use Prim.Native.Nat.{_<_};
+use crate::outcome::Outcome;
+use crate::outcome::given;
+use crate::outcome::refused;
+use crate::places::narrow;
+
+// N = o + k.
+pub fn node_count(o: u32, k: u32) -> usize
+    ensures { λ r. ⌜ r < 8589934592 ⌝ }
+{
+    o as usize + k as usize
+}
+
+// Whether x is a node.
+pub fn is_node(o: u32, k: u32, x: u32) -> bool {
+    (x as usize) < node_count(o, k)
+}
+
+// Whether y is a kind.
+pub fn is_kind(o: u32, k: u32, y: u32) -> bool {
+    o <= y && is_node(o, k, y)
+}
+
+// A word's tail.
+pub fn tail_of(word: u32) -> u32 {
+    word / 2048
+}
+
+// A word's head.
+pub fn head_of(word: u32) -> u32 {
+    word / 2 % 1024
+}
+
+// The index of the first illegal word, or the number of words.
+fn first_illegal(o: u32, k: u32, words: &[u32]) -> usize {
+    let mut i = 0;
+    while i < words.len() {
+        let word = words[i];
+        if !is_node(o, k, tail_of(word)) || !is_kind(o, k, head_of(word)) {
+            return i;
+        }
+        i += 1;
+    }
+    i
+}
+
+// Rows 1 to 3; number 0 where none of them applies.
+pub fn net_check(o: u32, k: u32, words: &[u32]) -> Outcome {
+    if node_count(o, k) > 1024 {
+        return refused(1);
+    }
+    if words.len() > 2097152 {
+        return refused(2);
+    }
+    let i = first_illegal(o, k, words);
+    if i < words.len() {
+        return given(3, narrow(i), 0);
+    }
+    refused(0)
+}
+
+// Rows 1 to 3, and row 4 for a call from the node x.
+pub fn node_check(o: u32, k: u32, words: &[u32], x: u32) -> Outcome {
+    let net = net_check(o, k, words);
+    if net.number == 0 && !is_node(o, k, x) {
+        return refused(4);
+    }
+    net
+}
+
+// Rows 1 to 3, and row 4 for a call from the kind y.
+pub fn kind_check(o: u32, k: u32, words: &[u32], y: u32) -> Outcome {
+    let net = net_check(o, k, words);
+    if net.number == 0 && !is_kind(o, k, y) {
+        return refused(4);
+    }
+    net
+}
+
+// Rows 1 to 4 for a call about the statement (x, y, sign).
+pub fn statement_check(o: u32, k: u32, words: &[u32], x: u32, y: u32, sign: u32) -> Outcome {
+    let start = node_check(o, k, words, x);
+    if start.number != 0 {
+        return start;
+    }
+    if sign > 1 || !is_kind(o, k, y) {
+        return refused(4);
+    }
+    start
+}

@@ -1,0 +1,214 @@
+// A second engine for the operations of 01, written from the request alone: it closes a table of all pairs under the support
+// rules, where the proved engine spreads markers. It promises to be safe and to end; its answers are there to be compared.
+
+mod outcome; // outcome.rt: number and values of an answer
+mod places; // places.rt: reading and writing at any place of a lent slice
+mod check; // check.rt: rows 1 to 4 of the number table
+mod closure; // closure.rt: the table of supported statements
+mod rounds; // rounds.rt: the rounds of both scans
+mod search; // search.rt: the shortest reason
+mod path; // path.rt: whether a list is a path
+mod file; // file.rt: the net file
+mod text; // text.rt: the lines of `ask`
+
+use check::kind_check;
+use check::net_check;
+use check::node_check;
+use check::node_count;
+use check::statement_check;
+use closure::answer;
+use closure::clashing_cell;
+use closure::close;
+use closure::count_words;
+use closure::empty_table;
+use closure::write_words;
+use file::front;
+use file::number_at;
+use file::read_words;
+use file::word_count;
+use file::wrong_place;
+pub use outcome::Outcome;
+use outcome::given;
+use outcome::refused;
+use path::shows;
+use places::clear;
+use places::entry_at;
+use places::narrow;
+use places::node;
+use places::wide;
+use rounds::forward_marks;
+use rounds::kind_marks;
+use search::fill_distances;
+use search::write_reason;
+use text::file_line;
+use text::net_line;
+use text::question_lines;
+
+// The forward scan from the node `start`.
+pub fn forward_scan(
+    o: u32,
+    k: u32,
+    words: &[u32],
+    start: u32,
+    budget: u32,
+    marks: &mut [u8],
+) -> Outcome {
+    let checked = node_check(o, k, words, start);
+    if checked.number != 0 {
+        return checked;
+    }
+    let n = node_count(o, k);
+    if marks.len() < n {
+        return refused(5);
+    }
+    forward_marks(n, words, node(start), budget, marks)
+}
+
+// The kind scan from the kind `start`.
+pub fn kind_scan(
+    o: u32,
+    k: u32,
+    words: &[u32],
+    start: u32,
+    budget: u32,
+    marks: &mut [u8],
+) -> Outcome {
+    let checked = kind_check(o, k, words, start);
+    if checked.number != 0 {
+        return checked;
+    }
+    let n = node_count(o, k);
+    if marks.len() < n {
+        return refused(5);
+    }
+    kind_marks(n, words, node(start), budget, marks)
+}
+
+// The question (x, y): the word is read off the table, the marks and the count are the forward scan's.
+pub fn question(o: u32, k: u32, words: &[u32], x: u32, y: u32, marks: &mut [u8]) -> Outcome {
+    let checked = statement_check(o, k, words, x, y, 0);
+    if checked.number != 0 {
+        return checked;
+    }
+    let n = node_count(o, k);
+    if marks.len() < n {
+        return refused(5);
+    }
+    let mut support = empty_table();
+    close(node(o), n, words, &mut support);
+    let scan = forward_marks(n, words, node(x), narrow(2 * n), marks);
+    given(scan.number, answer(&support, node(x), node(y)), scan.first)
+}
+
+// All supported words, ascending.
+pub fn completion(o: u32, k: u32, words: &[u32], marks: &mut [u8], list: &mut [u32]) -> Outcome {
+    let checked = net_check(o, k, words);
+    if checked.number != 0 {
+        return checked;
+    }
+    let n = node_count(o, k);
+    if marks.len() < n {
+        return refused(5);
+    }
+    let mut support = empty_table();
+    close(node(o), n, words, &mut support);
+    clear(marks, n);
+    let count = count_words(&support);
+    if list.len() < count {
+        return given(8, narrow(count), 0);
+    }
+    write_words(&support, list);
+    given(0, narrow(count), 0)
+}
+
+// The smallest object that both is and is not some kind, and the smallest such kind.
+pub fn clash(o: u32, k: u32, words: &[u32], marks: &mut [u8]) -> Outcome {
+    let checked = net_check(o, k, words);
+    if checked.number != 0 {
+        return checked;
+    }
+    let n = node_count(o, k);
+    if marks.len() < n {
+        return refused(5);
+    }
+    let mut support = empty_table();
+    close(node(o), n, words, &mut support);
+    clear(marks, n);
+    let at = clashing_cell(&support, node(o));
+    if at >= 1048576 {
+        return refused(7);
+    }
+    given(0, narrow(at / 1024), narrow(at % 1024))
+}
+
+// The shortest reason for the statement (x, y, sign).
+pub fn reason(
+    o: u32,
+    k: u32,
+    words: &[u32],
+    x: u32,
+    y: u32,
+    sign: u32,
+    scratch: &mut [u16],
+    list: &mut [u16],
+) -> Outcome {
+    let checked = statement_check(o, k, words, x, y, sign);
+    if checked.number != 0 {
+        return checked;
+    }
+    let n = node_count(o, k);
+    if scratch.len() < 2 * n {
+        return refused(5);
+    }
+    fill_distances(n, words, node(y), sign, scratch);
+    let links = entry_at(scratch, node(x));
+    if links == 65535 {
+        return refused(7);
+    }
+    let needed = wide(links) + 3;
+    if list.len() < needed {
+        return given(8, narrow(needed), 0);
+    }
+    write_reason(n, words, node(x), links, scratch, list);
+    given(0, narrow(needed), 0)
+}
+
+// Whether `list` is a path that shows the statement (x, y, sign).
+pub fn reason_check(
+    o: u32,
+    k: u32,
+    words: &[u32],
+    x: u32,
+    y: u32,
+    sign: u32,
+    list: &[u16],
+) -> Outcome {
+    let checked = statement_check(o, k, words, x, y, sign);
+    if checked.number != 0 {
+        return checked;
+    }
+    if shows(o, k, words, x, y, sign, list) {
+        return given(0, 1, 0);
+    }
+    given(0, 0, 0)
+}
+
+// The text that `ask` prints for a file, written in front of `text`, and its length: what has no room is left out.
+pub fn ask_text(file: &[u8], text: &mut [u8]) -> usize {
+    let place = wrong_place(file);
+    if place < 4 {
+        return file_line(text, place);
+    }
+    let o = number_at(file, 6);
+    let k = number_at(file, 7);
+    let mut room = [0u32; 8192];
+    read_words(file, &mut room);
+    let words = front(&room, word_count(file));
+    let net = net_check(o, k, words);
+    if net.number != 0 {
+        return net_line(text, net);
+    }
+    let mut support = empty_table();
+    close(node(o), node_count(o, k), words, &mut support);
+    question_lines(file, o, k, words, &support, text)
+}
