@@ -3,6 +3,7 @@ use Prim.Native.Nat.{ℕ, _<_, _≤_}
 use mathlib.Core.Path.{_≡_, sym, ap, _∙_}
 use mathlib.Core.Bool.{Bool, true, false, cond, _&&_, _||_}
 use mathlib.Core.List.{List, _++_}
+use native.Mathlib.Omega.{arith}
 use borrow.Author.Tests.{lt-ltb, le-ltb, le-leb, lt-leb}
 use lib.Dec.{ltb, leb}
 use lib.ListN.{length, drop}
@@ -68,7 +69,7 @@ module _ (kind : Bool) (o n : ℕ) (ws : List ℕ) (x b : ℕ) (m : List ℕ) wh
         → outcome (cond d (Done count) (Spent count)) m₂ ≡ scanNet kind o n ws x b m
     unfolding scanNet Good
     scan-ran {m₁ = m₁} l e h s r =
-        let f = rounds-frame (drop n m) (commands kind) (puts kind) ws b 0 (start kind n x) (rw (start-long n x l kind) e) in
+        let f = rounds-frame (drop n m) (commands kind) (puts 8 (omega arith) kind) ws b 0 (start kind n x) (rw (start-long n x l kind) e) in
         rw (g, le-ltb (length m) n h) (ap over (sym r ∙ ap (rounds (commands kind) ws 0 b) s ∙ f))
 
 -- What was checked: a refusal is passed on, and a net is scanned.

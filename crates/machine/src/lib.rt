@@ -29,6 +29,70 @@ struct Ran {
     count: u32,
 }
 
+// The three markers.
+const T: u8 = 0;
+
+const F: u8 = 1;
+
+const U: u8 = 2;
+
+// The commands, named by sign, by the end that gets a marker and by the marker tested at the other end: "is" hands that marker on, "is not" puts F.
+const IS_TO_TAIL_T: Command = Command {
+    sign: 0,
+    up: true,
+    test: T,
+    put: T,
+};
+
+const IS_TO_HEAD_T: Command = Command {
+    sign: 0,
+    up: false,
+    test: T,
+    put: T,
+};
+
+const IS_TO_TAIL_F: Command = Command {
+    sign: 0,
+    up: true,
+    test: F,
+    put: F,
+};
+
+const IS_TO_HEAD_U: Command = Command {
+    sign: 0,
+    up: false,
+    test: U,
+    put: U,
+};
+
+const NOT_TO_HEAD_T: Command = Command {
+    sign: 1,
+    up: false,
+    test: T,
+    put: F,
+};
+
+const NOT_TO_TAIL_T: Command = Command {
+    sign: 1,
+    up: true,
+    test: T,
+    put: F,
+};
+
+const NOT_TO_HEAD_U: Command = Command {
+    sign: 1,
+    up: false,
+    test: U,
+    put: F,
+};
+
+const NOT_TO_TAIL_U: Command = Command {
+    sign: 1,
+    up: true,
+    test: U,
+    put: F,
+};
+
 // One round of the kind scan, or of the forward scan; whether it set a mark.
 fn round(kind: bool, n: usize, words: &[u32], marks: &mut [u8]) -> bool
     requires inside { ⌜ Inside n (now words) ⌝ }
@@ -40,107 +104,17 @@ fn round(kind: bool, n: usize, words: &[u32], marks: &mut [u8]) -> bool
     ensures { λ r. ⌜ Low n (now (marks .exit)) ⌝ }
 {
     if kind {
-        let a = run_command(
-            Command {
-                sign: 0,
-                up: true,
-                test: 0,
-                put: 0,
-            },
-            n,
-            words,
-            marks,
-        );
-        let b = run_command(
-            Command {
-                sign: 0,
-                up: false,
-                test: 2,
-                put: 2,
-            },
-            n,
-            words,
-            marks,
-        );
-        let c = run_command(
-            Command {
-                sign: 0,
-                up: true,
-                test: 1,
-                put: 1,
-            },
-            n,
-            words,
-            marks,
-        );
-        let d = run_command(
-            Command {
-                sign: 1,
-                up: false,
-                test: 2,
-                put: 1,
-            },
-            n,
-            words,
-            marks,
-        );
-        let e = run_command(
-            Command {
-                sign: 1,
-                up: true,
-                test: 2,
-                put: 1,
-            },
-            n,
-            words,
-            marks,
-        );
+        let a = run_command(IS_TO_TAIL_T, n, words, marks);
+        let b = run_command(IS_TO_HEAD_U, n, words, marks);
+        let c = run_command(IS_TO_TAIL_F, n, words, marks);
+        let d = run_command(NOT_TO_HEAD_U, n, words, marks);
+        let e = run_command(NOT_TO_TAIL_U, n, words, marks);
         a | b | c | d | e
     } else {
-        let a = run_command(
-            Command {
-                sign: 0,
-                up: false,
-                test: 0,
-                put: 0,
-            },
-            n,
-            words,
-            marks,
-        );
-        let b = run_command(
-            Command {
-                sign: 0,
-                up: true,
-                test: 1,
-                put: 1,
-            },
-            n,
-            words,
-            marks,
-        );
-        let c = run_command(
-            Command {
-                sign: 1,
-                up: false,
-                test: 0,
-                put: 1,
-            },
-            n,
-            words,
-            marks,
-        );
-        let d = run_command(
-            Command {
-                sign: 1,
-                up: true,
-                test: 0,
-                put: 1,
-            },
-            n,
-            words,
-            marks,
-        );
+        let a = run_command(IS_TO_HEAD_T, n, words, marks);
+        let b = run_command(IS_TO_TAIL_F, n, words, marks);
+        let c = run_command(NOT_TO_HEAD_T, n, words, marks);
+        let d = run_command(NOT_TO_TAIL_T, n, words, marks);
         a | b | c | d
     }
 }

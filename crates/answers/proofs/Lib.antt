@@ -1,0 +1,4 @@
+pub mod FullScans
+pub mod Bytes
+pub mod Outcomes
+pub mod Clashes

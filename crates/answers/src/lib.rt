@@ -1,0 +1,162 @@
+// The operations that a scope calls before a mean goes on the screen, and at boot: question and clash test.
+ghost use mathlib.Core.Path.{_≡_};
+ghost use mathlib.Core.List.{_++_};
+ghost use Prim.Native.Nat.{_+_, _*_, _-_, _<_, _≤_};
+ghost use lib.ListN.{length, drop};
+ghost use Rattle.theory.specs.Nets.{Net};
+ghost use Rattle.theory.specs.Scans.{forwardScan};
+ghost use Rattle.answers.specs.Table.{answerAt, question, questionNet, questioned, cleared, clash, clashNodes, clashNet, firstBoth, firstClash, clashedBy};
+use machine::Scanned;
+use machine::clear;
+use machine::scan_net;
+use words::Checked;
+use words::Refusal;
+use words::check_net;
+use words::is_bad_pair;
+
+// The four answers.
+pub enum Answer {
+    None,
+    Yes,
+    No,
+    Both,
+}
+
+// What a question answers: the word with the count of rounds, or a refusal.
+pub enum Asked {
+    Done(Answer, u32),
+    Refused(Refusal),
+}
+
+// What a clash test answers: the smallest node that clashes and its smallest kind, or that there is none (row 7), or a refusal.
+pub enum Clashed {
+    At(usize, usize),
+    Nowhere,
+    Refused(Refusal),
+}
+
+// The forward scan from `x` with its full budget on a net that was checked; the count of its rounds.
+pub fn full_scan(o: u32, k: u32, n: usize, words: &[u32], x: u32, marks: &mut [u8]) -> u32
+    requires net { ⌜ Net o k (now words) ⌝ }
+    requires size { ⌜ n ≡ o + k ⌝ }
+    requires node { ⌜ x < n ⌝ }
+    requires room { ⌜ n ≤ length (now marks) ⌝ }
+    ensures count { λ r. ⌜ r ≡ forwardScan n (now (words .entry)) x (2 * n) .count ⌝ }
+    ensures left { λ r. ⌜ now (marks .exit) ≡ forwardScan n (now (words .entry)) x (2 * n) .marks ++ drop n (now (marks .entry)) ⌝ }
+{
+    let ran = scan_net(false, o, n, words, x, (2 * n) as u32, marks);
+    match ran {
+        Scanned::Done(count) => count,
+        Scanned::Spent(count) => count,
+        Scanned::Refused(_) => 0,
+    }
+}
+
+// What a byte at a kind answers.
+fn answer_at(byte: u8) -> Answer
+    ensures { λ r. ⌜ r ≡ answerAt byte ⌝ }
+{
+    if byte % 2 == 1 {
+        if byte / 2 % 2 == 1 {
+            Answer::Both
+        } else {
+            Answer::Yes
+        }
+    } else if byte / 2 % 2 == 1 {
+        Answer::No
+    } else {
+        Answer::None
+    }
+}
+
+// The question whether `x` is `y`.
+pub fn ask_question(o: u32, k: u32, words: &[u32], x: u32, y: u32, marks: &mut [u8]) -> Asked
+    ensures { λ r. ⌜ question r (now (marks .exit)) ≡ questioned o k (now (words .entry)) x y (now (marks .entry)) ⌝ }
+{
+    let net = check_net(o, k, words);
+    match net {
+        Checked::Refused(refusal) => Asked::Refused(refusal),
+        Checked::Nodes(n) => ask_net(o, k, n, words, x, y, marks),
+    }
+}
+
+// Rows 4, 5 and 0, on a net that was checked.
+fn ask_net(o: u32, k: u32, n: usize, words: &[u32], x: u32, y: u32, marks: &mut [u8]) -> Asked
+    requires net { ⌜ Net o k (now words) ⌝ }
+    requires size { ⌜ n ≡ o + k ⌝ }
+    ensures { λ r. ⌜ question r (now (marks .exit)) ≡ questionNet o n (now (words .entry)) x y (now (marks .entry)) ⌝ }
+{
+    if is_bad_pair(o, n, x, y) {
+        return Asked::Refused(Refusal::BadQuestion);
+    }
+    if marks.len() < n {
+        return Asked::Refused(Refusal::ShortBuffer);
+    }
+    let count = full_scan(o, k, n, words, x, marks);
+    let at = y as usize;
+    let byte = marks[at];
+    Asked::Done(answer_at(byte), count)
+}
+
+// The first kind below `n`, from `o` on, that has both marks, or `n`.
+fn first_both(o: usize, n: usize, marks: &[u8]) -> usize
+    requires { ⌜ (o ≤ n) × (n ≤ length (now marks)) ⌝ }
+    ensures { λ r. ⌜ r ≡ firstBoth (now (marks .entry)) o (n - o) ⌝ }
+{
+    let mut y = o;
+    while y < n {
+        let byte = marks[y];
+        if byte % 4 == 3 {
+            return y;
+        }
+        y += 1;
+    }
+    y
+}
+
+// The first node that clashes, with its first kind. The marks of the nodes are spoilt.
+fn search_clash(o: u32, k: u32, n: usize, words: &[u32], marks: &mut [u8]) -> Clashed
+    requires net { ⌜ Net o k (now words) ⌝ }
+    requires size { ⌜ n ≡ o + k ⌝ }
+    requires room { ⌜ n ≤ length (now marks) ⌝ }
+    ensures found { λ r. ⌜ r ≡ firstClash o k (now (words .entry)) 0 (clashNodes o k) ⌝ }
+    ensures past { λ r. ⌜ drop n (now (marks .exit)) ≡ drop n (now (marks .entry)) ⌝ }
+    ensures long { λ r. ⌜ length (now (marks .exit)) ≡ length (now (marks .entry)) ⌝ }
+{
+    let objects = o as usize;
+    let mut x = 0;
+    while x < o {
+        full_scan(o, k, n, words, x, marks);
+        let y = first_both(objects, n, marks);
+        if y < n {
+            return Clashed::At(x as usize, y);
+        }
+        x += 1;
+    }
+    Clashed::Nowhere
+}
+
+// Rows 5, 7 and 0, on a net that was checked.
+fn clash_net(o: u32, k: u32, n: usize, words: &[u32], marks: &mut [u8]) -> Clashed
+    requires net { ⌜ Net o k (now words) ⌝ }
+    requires size { ⌜ n ≡ o + k ⌝ }
+    ensures { λ r. ⌜ clash r (now (marks .exit)) ≡ clashNet o k n (now (words .entry)) (now (marks .entry)) ⌝ }
+{
+    if marks.len() < n {
+        return Clashed::Refused(Refusal::ShortBuffer);
+    }
+    let found = search_clash(o, k, n, words, marks);
+    clear(n, marks);
+    found
+}
+
+// Whether some object has both marks at some kind.
+pub fn find_clash(o: u32, k: u32, words: &[u32], marks: &mut [u8]) -> Clashed
+    ensures { λ r. ⌜ clash r (now (marks .exit)) ≡ clashedBy o k (now (words .entry)) (now (marks .entry)) ⌝ }
+{
+    let net = check_net(o, k, words);
+    match net {
+        Checked::Refused(refusal) => Clashed::Refused(refusal),
+        Checked::Nodes(n) => clash_net(o, k, n, words, marks),
+    }
+}

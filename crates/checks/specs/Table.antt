@@ -1,0 +1,33 @@
+-- The outcome of the reason check, by the number table from top to bottom.
+use Prim.Native.Nat.{ℕ}
+use mathlib.Core.Bool.{cond}
+use mathlib.Core.List.{List}
+use Rattle.theory.specs.Words.{signAt}
+use Rattle.theory.specs.Checks.{passes}
+use Rattle.words.specs.Table.{checkNet, badStatement, Row, row, refusalRow}
+use Rattle.words.specs.declared.Refusal.the-variants.{BadQuestion}
+use Rattle.words.specs.declared.Checked.{Checked}
+use Rattle.words.specs.declared.Checked.the-variants as checked
+use Rattle.checks.specs.declared.Verdict.{Verdict}
+use Rattle.checks.specs.declared.Verdict.the-variants.{Holds, Fails, Refused}
+
+-- Rows 4 and 0 for a net of n nodes.
+unfoldable pub verdictNet : ℕ → ℕ → ℕ → List ℕ → ℕ → ℕ → ℕ → List ℕ → Verdict
+verdictNet o k n ws x y sign l =
+    cond (badStatement o n x y sign) (Refused BadQuestion)
+    (cond (passes o k ws x y (signAt sign) l) Holds Fails)
+
+-- Rows 1, 2 and 3 first.
+unfoldable pub verdictChecked : ℕ → ℕ → List ℕ → ℕ → ℕ → ℕ → List ℕ → Checked → Verdict
+verdictChecked o k ws x y sign l (checked.Nodes n) = verdictNet o k n ws x y sign l
+verdictChecked o k ws x y sign l (checked.Refused r) = Refused r
+
+-- Whether the list is a path that shows x → y (sign 0) or x ↛ y (sign 1).
+abbrev pub verdict : ℕ → ℕ → List ℕ → ℕ → ℕ → ℕ → List ℕ → Verdict
+verdict o k ws x y sign l = verdictChecked o k ws x y sign l (checkNet o k ws)
+
+-- The paper's number and value for each answer: yes is 1, no is 0.
+abbrev pub verdictRow : Verdict → Row
+verdictRow Holds = row 0 1 0
+verdictRow Fails = row 0 0 0
+verdictRow (Refused r) = refusalRow r
