@@ -1,22 +1,21 @@
 -- The search for a node that clashes, in the terms of a loop that has come to node x.
 use Prim.Native.Nat.{ℕ, zero, suc, _+_, _-_, _*_, _<_, _≤_}
-use mathlib.Core.Path.{_≡_, refl, sym, ap, _∙_, subst}
+use mathlib.Core.Path.{_≡_, refl, sym, ap, _∙_}
 use mathlib.Core.Bool.{Bool, true, false, cond, _&&_}
 use mathlib.Core.List.{List, _++_}
 use native.Mathlib.Omega.{arith}
 use native.Mathlib.Numerals.{add-one}
 use borrow.Author.Tests.{lt-ltb, le-ltb}
 use lib.Dec.{ltb}
-use lib.ListN.{length, getD, drop, List·getD-append, length-append, length-drop}
-use lib.Seq.{drop-at}
+use lib.ListN.{length, getD, drop, List·getD-append}
 use Rattle.theory.specs.Marks.{T, F, has}
 use Rattle.theory.specs.Nets.{Net}
 use Rattle.theory.specs.Scans.{forwardScan}
 use Rattle.theory.specs.Completion.{fullMarks}
-use Rattle.theory.proofs.Bounds.{forward-scan-long}
 use Rattle.answers.specs.Table.{firstBoth, firstClash}
 use Rattle.answers.specs.declared.Clashed.{Clashed}
 use Rattle.answers.specs.declared.Clashed.the-variants as clashed
+use Rattle.answers.proofs.FullScans.{full-long}
 
 -- Bytes past the nodes play no part in the search over kinds.
 both-frame : (a past : List ℕ) (y j : ℕ) → y + j ≤ length a → firstBoth (a ++ past) y j ≡ firstBoth a y j
@@ -25,26 +24,17 @@ both-frame a past y zero h = refl
 both-frame a past y (suc j) h =
     rw (List·getD-append a past 0 y (omega arith)) (ap (λ (q : ℕ). cond (has T (getD a y 0) && has F (getD a y 0)) y q) (both-frame a past (suc y) j (omega arith)))
 
+-- The first kind with both marks, read off the marks that the code has.
 module _ (o k n : ℕ) (ws : List ℕ) (net : Net o k ws) (e : n ≡ o + k) (x : ℕ) (h : x < n) (m m′ : List ℕ) (l : m′ ≡ forwardScan n ws x (2 * n) .marks ++ drop n m) where
-  abbrev marks : List ℕ
-  marks = forwardScan n ws x (2 * n) .marks
-
-  marks-long : length marks ≡ n
-  marks-long = subst (λ (i : ℕ). length (forwardScan i ws x (2 * i) .marks) ≡ i) (sym e) (forward-scan-long o k ws (net .legal) x (omega arith) (2 * (o + k)))
-
-  -- What a scan leaves past the nodes, and how long.
-  pub scan-past : drop n m′ ≡ drop n m
-  scan-past = ap (drop n) l ∙ drop-at marks (drop n m) n marks-long
-
-  pub scan-length : n ≤ length m → length m′ ≡ length m
-  scan-length r = ap length l ∙ simp (length-append, length-drop) (omega (arith, marks-long))
-
-  -- The first kind with both marks, read off the marks that the code has.
   pub read-both : firstBoth m′ o (n - o) ≡ firstBoth (fullMarks o k ws x) o k
   read-both =
+      let marks : List ℕ = forwardScan n ws x (2 * n) .marks in
       let a : n - o ≡ k = omega arith in
-      let b : firstBoth m′ o (n - o) ≡ firstBoth marks o (n - o) = ap (λ (q : List ℕ). firstBoth q o (n - o)) l ∙ both-frame marks (drop n m) o (n - o) (omega (arith, marks-long)) in
-      b ∙ ap (firstBoth marks o) a ∙ ap (λ (i : ℕ). firstBoth (forwardScan i ws x (2 * i) .marks) o k) e
+      let b : o + (n - o) ≤ length marks = omega (arith, full-long o k n ws net e x h) in
+      ap (λ (q : List ℕ). firstBoth q o (n - o)) l
+      ∙ both-frame marks (drop n m) o (n - o) b
+      ∙ ap (firstBoth marks o) a
+      ∙ ap (λ (i : ℕ). firstBoth (forwardScan i ws x (2 * i) .marks) o k) e
 
 pub clash-whole : (o k : ℕ) (ws : List ℕ) → firstClash o k ws 0 o ≡ firstClash o k ws 0 (o - 0)
 clash-whole o k ws = let e : o ≡ o - 0 = omega arith in ap (firstClash o k ws 0) e

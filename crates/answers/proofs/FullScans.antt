@@ -1,14 +1,17 @@
 -- The forward scan with its full budget, in the terms of the code.
 use Prim.Native.Nat.{ℕ, _+_, _*_, _<_, _≤_}
-use mathlib.Core.Path.{_≡_, refl, sym, ap, _∙_}
+use mathlib.Core.Path.{_≡_, refl, sym, ap, subst, _∙_}
 use mathlib.Core.Bool.{Bool, true, false, cond}
 use mathlib.Core.List.{List, _++_}
+use native.Mathlib.Omega.{arith}
 use borrow.Author.Tests.{le-ltb, lt-leb}
 use lib.Dec.{ltb, leb}
 use lib.ListN.{length, drop}
+use lib.Seq.{drop-at}
 use Rattle.theory.specs.Nets.{Net}
 use Rattle.theory.specs.Scans.{Scan, forwardScan}
 use Rattle.theory.proofs.Inside.{Inside, legal-inside}
+use Rattle.theory.proofs.Bounds.{forward-scan-long}
 use Rattle.machine.specs.Scanning.{Outcome, outcome, ran, scanNet}
 use Rattle.machine.specs.declared.Scanned.{Scanned}
 use Rattle.machine.specs.declared.Scanned.the-variants.{Done, Spent, Refused}
@@ -37,3 +40,12 @@ module _ (o n : ℕ) (ws : List ℕ) (x b : ℕ) (m : List ℕ) (h : x < n) (l :
 
   pub full-marks : m′ ≡ forwardScan n ws x b .marks ++ drop n m
   full-marks = ap (λ (q : Outcome). q .marks) full-ran
+
+module _ (o k n : ℕ) (ws : List ℕ) (net : Net o k ws) (e : n ≡ o + k) (x : ℕ) (h : x < n) where
+  -- The scan's marks are those of the nodes.
+  pub full-long : length (forwardScan n ws x (2 * n) .marks) ≡ n
+  full-long = subst (λ (i : ℕ). length (forwardScan i ws x (2 * i) .marks) ≡ i) (sym e) (forward-scan-long o k ws (net .legal) x (omega arith) (2 * (o + k)))
+
+  -- It leaves the bytes past them.
+  pub full-past : (m m′ : List ℕ) → m′ ≡ forwardScan n ws x (2 * n) .marks ++ drop n m → drop n m′ ≡ drop n m
+  full-past m m′ l = ap (drop n) l ∙ drop-at (forwardScan n ws x (2 * n) .marks) (drop n m) n full-long

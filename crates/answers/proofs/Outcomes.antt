@@ -1,6 +1,6 @@
 -- Each outcome of a question and of a clash test, in the terms of the code.
 use Prim.Native.Nat.{ℕ, _+_, _*_, _<_, _≤_}
-use mathlib.Core.Path.{_≡_, refl, sym, ap, _∙_, subst}
+use mathlib.Core.Path.{_≡_, refl, sym, ap, _∙_}
 use mathlib.Core.Bool.{Bool, true, false, cond, _||_}
 use mathlib.Core.List.{List, _++_}
 use native.Mathlib.Omega.{arith}
@@ -10,7 +10,6 @@ use lib.ListN.{length, getD, drop, replicate, List·getD-append}
 use Rattle.laws.proofs.Booleans.{or-none-left, or-none-right}
 use Rattle.theory.specs.Nets.{Kind, Net}
 use Rattle.theory.specs.Scans.{Scan, forwardScan}
-use Rattle.theory.proofs.Bounds.{forward-scan-long}
 use Rattle.words.specs.Table.{checkNet, badPair}
 use Rattle.words.specs.declared.Refusal.{Refusal}
 use Rattle.words.specs.declared.Refusal.the-variants.{BadQuestion, ShortBuffer}
@@ -23,6 +22,7 @@ use Rattle.answers.specs.declared.Asked.{Asked}
 use Rattle.answers.specs.declared.Asked.the-variants as asked
 use Rattle.answers.specs.declared.Clashed.{Clashed}
 use Rattle.answers.specs.declared.Clashed.the-variants as clashed
+use Rattle.answers.proofs.FullScans.{full-long}
 
 -- What the check of a net hands on.
 pub checked-net : (o k : ℕ) (ws : List ℕ) (n : ℕ) → checkNet o k ws ≡ checked.Nodes n → Net o k ws × (n ≡ o + k)
@@ -61,7 +61,7 @@ module _ (o n : ℕ) (ws : List ℕ) (x y : ℕ) (m : List ℕ) where
   unfolding questionNet
   ask-done k net e g h m′ count a c l r =
       let p = good-pair o n x y g in
-      let long : length (forwardScan n ws x (2 * n) .marks) ≡ n = subst (λ (i : ℕ). length (forwardScan i ws x (2 * i) .marks) ≡ i) (sym e) (forward-scan-long o k ws (net .legal) x (omega (arith, p .node)) (2 * (o + k))) in
+      let long = full-long o k n ws net e x (p .node) in
       let same : getD m′ y 0 ≡ getD (forwardScan n ws x (2 * n) .marks) y 0 = ap (λ (q : List ℕ). getD q y 0) l ∙ List·getD-append (forwardScan n ws x (2 * n) .marks) (drop n m) 0 y (omega (arith, p .high, long)) in
       rw (g, le-ltb (length m) n h) (done (r ∙ ap answerAt same) c l)
     where

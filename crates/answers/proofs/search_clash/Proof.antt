@@ -5,7 +5,8 @@ use native.Mathlib.Omega.{arith}
 use borrow.Author.Needs.{needs}
 use lib.ListN.{length, drop}
 use Rattle.answers.specs.Table.{firstClash}
-use Rattle.answers.proofs.Clashes.{scan-past, scan-length, read-both, clash-whole, clash-stop, clash-go, clash-end}
+use Rattle.answers.proofs.FullScans.{full-past}
+use Rattle.answers.proofs.Clashes.{read-both, clash-whole, clash-stop, clash-go, clash-end}
 use Rattle.answers.proofs.search_clash.Statement.{statement}
 use Rattle.answers.proofs.search_clash.Tie as tie
 
@@ -57,7 +58,7 @@ returns c =
           (c .before .first-both .ensures ∙ read-both (a .o) (a .k) (a .n) (a .words .now) (s .pre .0) (s .pre .1 .0) x inside m m′ e)
           (omega (arith, c .if1 .taken, s .pre .1 .0)) ∙ sym (at .loop .inv .3),
       (
-        scan-past (a .o) (a .k) (a .n) (a .words .now) (s .pre .0) (s .pre .1 .0) x inside m m′ e ∙ at .loop .inv .2,
+        full-past (a .o) (a .k) (a .n) (a .words .now) (s .pre .0) (s .pre .1 .0) x inside m m′ e ∙ at .loop .inv .2,
         scanned .full-scan .kept .1 .1 .1 .1 .1 .0 ∙ at .loop .inv .1,
       ),
     )
@@ -81,7 +82,7 @@ loop-again c =
     let m′ = scanned .full-scan .last .1 .1 .1 .1 .1 .0 in (
       omega (arith, scanned .before .before .loop-test .taken),
       scanned .full-scan .kept .1 .1 .1 .1 .1 .0 ∙ at .loop .inv .1,
-      scan-past (a .o) (a .k) (a .n) (a .words .now) (s .pre .0) (s .pre .1 .0) x inside m m′ e ∙ at .loop .inv .2,
+      full-past (a .o) (a .k) (a .n) (a .words .now) (s .pre .0) (s .pre .1 .0) x inside m m′ e ∙ at .loop .inv .2,
       at .loop .inv .3
           ∙ clash-go (a .o) (a .k) (a .words .now) x (c .before .first-both .result) (scanned .before .before .loop-test .taken)
           (c .before .first-both .ensures ∙ read-both (a .o) (a .k) (a .n) (a .words .now) (s .pre .0) (s .pre .1 .0) x inside m m′ e)

@@ -1,0 +1,82 @@
+-- Each return is one row of the table.
+use mathlib.Core.Path.{ap, _∙_}
+use native.Mathlib.Omega.{arith}
+use borrow.Author.Needs.{needs}
+use Rattle.completion.proofs.Outcomes.{complete-unmarked, complete-short, complete-done}
+use Rattle.completion.proofs.complete_checked.Statement.{statement}
+use Rattle.completion.proofs.complete_checked.Tie as tie
+
+returns : tie.Need-returns
+returns c =
+    let a = c .before .before .before .before .args in
+    complete-unmarked (a .o) (a .k) (a .n) (a .words .now) (a .marks .now) (a .list .now) (c .if1 .taken)
+
+count-rows-requires : tie.Need-count-rows-requires
+count-rows-requires c κs = search needs
+
+clear-requires : tie.Need-clear-requires
+clear-requires c κs = search needs
+
+same-length : tie.Need-same-length
+same-length c = search needs
+
+returns-2 : tie.Need-returns-2
+returns-2 c =
+    let cleared = c .before .before in
+    let tested = cleared .before .before in
+    let counted = tested .before .before .before in
+    let a = counted .before .before .before .before .before .before .args in
+    complete-short (a .o) (a .k) (a .n) (a .words .now) (a .marks .now) (a .list .now) (counted .before .before .if1 .left) (counted .count-rows .result)
+    (counted .count-rows .ensures .0) (counted .count-rows .last .1 .1 .1 .1 .0) (counted .count-rows .ensures .1 .0) (tested .if2 .taken)
+    (cleared .clear .last .1 .0) (cleared .clear .ensures)
+
+write-rows-requires : tie.Need-write-rows-requires
+write-rows-requires c κs =
+    let tested = c .before .before in
+    let counted = tested .before .before .before in
+    let s = counted .before .before .before .before .before .before in (
+      s .pre .0,
+      (
+        s .pre .1,
+        (
+          omega (arith, counted .count-rows .kept .1 .1 .1 .1 .0, counted .before .before .if1 .left),
+          omega (arith, counted .count-rows .ensures .0, tested .if2 .left),
+        ),
+      ),
+    )
+
+clear-requires-2 : tie.Need-clear-requires-2
+clear-requires-2 c κs = search needs
+
+same-length-2 : tie.Need-same-length-2
+same-length-2 c = search needs
+
+same-length-3 : tie.Need-same-length-3
+same-length-3 c = search needs
+
+returns-3 : tie.Need-returns-3
+returns-3 c =
+    let cleared = c .before .before in
+    let written = cleared .before .before .before .before .before .before in
+    let tested = written .before .before .before in
+    let counted = tested .before .before .before in
+    let a = counted .before .before .before .before .before .before .args in
+    complete-done (a .o) (a .k) (a .n) (a .words .now) (a .marks .now) (a .list .now) (counted .before .before .if1 .left) (counted .count-rows .result)
+    (counted .count-rows .ensures .0) (counted .count-rows .last .1 .1 .1 .1 .0) (counted .count-rows .ensures .1 .0) (tested .if2 .left)
+    (written .write-rows .last .1 .1 .1 .1 .0) (cleared .clear2 .last .1 .0) (written .write-rows .last .1 .1 .1 .1 .1 .0)
+    (written .write-rows .ensures .1 .0) (cleared .clear2 .ensures) (written .write-rows .ensures .0)
+
+pub complete-checked-spec : {M : Type 1} → statement M
+complete-checked-spec =
+    tie.close
+    (tie.spec
+    returns
+    count-rows-requires
+    clear-requires
+    same-length
+    returns-2
+    write-rows-requires
+    clear-requires-2
+    same-length-2
+    same-length-3
+    returns-3)

@@ -1,0 +1,57 @@
+-- The check's refusal is passed on, and its net is completed.
+use mathlib.Core.Path.{sym, _∙_}
+use borrow.Author.Needs.{needs}
+use Rattle.answers.proofs.Outcomes.{checked-net}
+use Rattle.completion.proofs.Outcomes.{complete-refused, complete-checked}
+use Rattle.completion.proofs.complete_net.Statement.{statement}
+use Rattle.completion.proofs.complete_net.Tie as tie
+
+check-net-requires : tie.Need-check-net-requires
+check-net-requires c κs = search needs
+
+enum-known-net : tie.Need-enum-known-net
+enum-known-net c = search needs
+
+enum-known-net-2 : tie.Need-enum-known-net-2
+enum-known-net-2 c = search needs
+
+complete-checked-requires : tie.Need-complete-checked-requires
+complete-checked-requires c κs =
+    let net = c .before .before .before in
+    let checked = net .before .before in
+    let a = checked .before .before .before .before .args in
+    checked-net (a .o) (a .k) (a .words .now) (net .net2 .given .0 .0) (sym (checked .check-net .ensures) ∙ net .net2 .given .1)
+
+returns : tie.Need-returns
+returns c =
+    let net = c .before in
+    let checked = net .before .before in
+    let a = checked .before .before .before .before .args in
+    complete-refused (a .o) (a .k) (a .words .now) (a .marks .now) (a .list .now) (sym (checked .check-net .ensures) ∙ net .net .given .1)
+
+same-length : tie.Need-same-length
+same-length c = search needs
+
+same-length-2 : tie.Need-same-length-2
+same-length-2 c = search needs
+
+returns-2 : tie.Need-returns-2
+returns-2 c =
+    let done = c .before .before .before .before in
+    let net = done .before .before .before .before in
+    let checked = net .before .before in
+    let a = checked .before .before .before .before .args in
+    complete-checked (a .o) (a .k) (a .words .now) (a .marks .now) (a .list .now) (sym (checked .check-net .ensures) ∙ net .net2 .given .1) (done .complete-checked .ensures)
+
+pub complete-net-spec : {M : Type 1} → statement M
+complete-net-spec =
+    tie.close
+    (tie.spec
+    check-net-requires
+    enum-known-net
+    enum-known-net-2
+    complete-checked-requires
+    returns
+    same-length
+    same-length-2
+    returns-2)

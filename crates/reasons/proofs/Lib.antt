@@ -1,0 +1,4 @@
+pub mod Written
+pub mod NetReason
+pub mod Rows
+pub mod Readings

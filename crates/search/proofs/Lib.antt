@@ -1,0 +1,3 @@
+pub mod WordArcs
+pub mod Opening
+pub mod Levelling
