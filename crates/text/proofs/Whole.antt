@@ -1,0 +1,118 @@
+-- The text of a net by its check, of the bodies by what is read of them, and of a file by its contents; and that all of it fits.
+use Prim.Native.Nat.{ℕ, _+_, _*_, _-_, _/_, _≤_}
+use mathlib.Core.Path.{_≡_, refl, sym, ap, _∙_}
+use mathlib.Core.Bool.{Bool, true, false, cond}
+use mathlib.Core.List.{List, [], _∷_, _++_, map}
+use native.Mathlib.Omega.{arith}
+use borrow.Author.Tests.{ltb-true}
+use lib.Dec.{ltb}
+use lib.ListN.{length, getD, take, drop, length-append, length-take, length-drop, List·getD-map}
+use lib.Seq.{take-at}
+use Rattle.theory.specs.Words.{nodeLimit, wordLimit}
+use Rattle.words.specs.Legal.{legalPrefix}
+use Rattle.words.specs.Table.{checkNet, refusalRow}
+use Rattle.words.specs.declared.Refusal.{Refusal}
+use Rattle.words.specs.declared.Refusal.the-variants.{TooManyNodes, TooManyWords, IllegalWord}
+use Rattle.words.specs.declared.Checked.{Checked}
+use Rattle.words.specs.declared.Checked.the-variants as checked
+use Rattle.netfile.specs.Contents.{u32At, u32s, contentsOf, bodiesOf}
+use Rattle.netfile.specs.declared.Contents.{Contents}
+use Rattle.netfile.specs.declared.Contents.the-variants.{Bodies, Malformed}
+use Rattle.netfile.proofs.Reading.{length-words}
+use Rattle.netfile.proofs.Places.{stretches}
+use Rattle.lines.specs.Line.{decimal, field, lastField, fileWord, netWord}
+use Rattle.text.specs.Text.{linesOf, netText, bodiesText, fileText, textOf}
+
+-- ── a net ──
+
+-- The index that goes with a check, 0 where it names none.
+abbrev indexOf : Checked → ℕ
+indexOf (checked.Nodes n) = 0
+indexOf (checked.Refused r) = refusalRow r .first
+
+module _ (o k : ℕ) (ws : List ℕ) where
+  index-inside : indexOf (checkNet o k ws) ≤ length ws
+  unfolding checkNet
+  index-inside = at (ltb nodeLimit (o + k)) (ltb wordLimit (length ws)) (ltb (legalPrefix o (o + k) ws) (length ws)) refl
+    where
+      at : (a b d : Bool) → ltb (legalPrefix o (o + k) ws) (length ws) ≡ d
+          → indexOf
+          (cond a (checked.Refused TooManyNodes)
+          (cond b (checked.Refused TooManyWords)
+          (cond d (checked.Refused (IllegalWord (legalPrefix o (o + k) ws))) (checked.Nodes (o + k)))))
+          ≤ length ws
+      at true b d e = omega arith
+      at false true d e = omega arith
+      at false false true e = omega (arith, ltb-true (legalPrefix o (o + k) ws) (length ws) e)
+      at false false false e = omega arith
+
+  module _ {c : Checked} (e : c ≡ checkNet o k ws) where
+    -- The index of a refused net is at most the number of its words.
+    pub index-room : {r : Refusal} → c ≡ checked.Refused r → refusalRow r .first ≤ length ws
+    index-room f =
+        let g = ap indexOf (sym f ∙ e) in
+        omega (arith, index-inside)
+
+    -- A net that is not refused has a line for each question,
+    pub net-lines : (b : List ℕ) {n : ℕ} → c ≡ checked.Nodes n → linesOf o k ws (length b / 4) b ≡ netText o k ws b (checkNet o k ws)
+    unfolding netText
+    net-lines b f = rw (← e, f)
+
+    -- and a refused one its number and index.
+    pub net-report : (b : List ℕ) {r : Refusal} {n i : ℕ} → c ≡ checked.Refused r → n ≡ refusalRow r .number → i ≡ refusalRow r .first
+        → field netWord (field (decimal n) (lastField (decimal i))) ≡ netText o k ws b (checkNet o k ws)
+    unfolding netText
+    net-report b f g h = rw (← e, f, g, h)
+
+-- ── the bodies ──
+
+-- The words are what was read into the front of the place for them.
+pub first-words : (b l xs : List ℕ) (n : ℕ) → xs ≡ u32s n b ++ drop n l → take n xs ≡ u32s n b
+first-words b l xs n e = ap (take n) e ∙ take-at (u32s n b) (drop n l) n (length-words n b)
+
+pub words-read : (b l xs : List ℕ) (n : ℕ) → xs ≡ u32s n b ++ drop n l → n ≡ length (take n xs)
+words-read b l xs n e = sym (ap length (first-words b l xs n e) ∙ length-words n b)
+
+pub bodies-joined : (nodes words questions : List ℕ) {o k : ℕ} {ws : List ℕ} → o ≡ u32At nodes 0 → k ≡ u32At nodes 4 → ws ≡ u32s (length words / 4) words
+    → netText o k ws questions (checkNet o k ws) ≡ bodiesText nodes words questions
+bodies-joined nodes words questions e f g = rw (e, f, g)
+
+-- ── a file ──
+
+-- What the reader hands back at each place.
+pub record Handed (s nodes words questions : List ℕ) : Type 0 where
+  pub nodes-are : nodes ≡ take 8 (drop 24 s)
+  pub text-is : bodiesText nodes words questions ≡ textOf s
+  pub nodes-room : 8 ≤ length nodes
+  pub words-room : length words ≤ 32768
+  pub questions-room : length questions / 4 * 31 ≤ 262144
+
+module _ (s : List ℕ) {c : Contents} (e : c ≡ contentsOf s) where
+  -- Three bodies of a file that is not malformed: their text is the file's, and it fits.
+  pub handed : {A : Type 0} (now : A → List ℕ) (r : List A) (d : A) {q : ℕ} → c ≡ Bodies q → map now r ≡ bodiesOf s (contentsOf s)
+      → Handed s (now (getD r 0 d)) (now (getD r 1 d)) (now (getD r 2 d))
+  unfolding bodiesOf fileText
+  handed now r d {q} f g =
+      let z = stretches s q (sym e ∙ f) in
+      let h : map now r ≡ take 8 (drop 24 s) ∷ take (q - 32) (drop 32 s) ∷ drop q s ∷ [] = g ∙ rw (← e, f) in
+      let n0 : now (getD r 0 d) ≡ take 8 (drop 24 s) = sym (List·getD-map now r 0 d) ∙ ap (λ (l : List (List ℕ)). getD l 0 (now d)) h in
+      let n1 : now (getD r 1 d) ≡ take (q - 32) (drop 32 s) = sym (List·getD-map now r 1 d) ∙ ap (λ (l : List (List ℕ)). getD l 1 (now d)) h in
+      let n2 : now (getD r 2 d) ≡ drop q s = sym (List·getD-map now r 2 d) ∙ ap (λ (l : List (List ℕ)). getD l 2 (now d)) h in
+      record {
+        nodes-are = n0;
+        text-is = rw (n0, n1, n2, ← e, f);
+        nodes-room = rw n0 (simp (length-take, length-drop) (omega arith));
+        words-room = rw n1 (simp (length-take, length-drop) (omega arith));
+        questions-room = rw n2 (simp length-drop (omega arith));
+      }
+
+  -- The line of a malformed one.
+  pub file-report : {p : ℕ} → c ≡ Malformed p → field fileWord (field (decimal 9) (lastField (decimal p))) ≡ textOf s
+  unfolding fileText
+  file-report f = rw (← e, f)
+
+-- What is printed stands in front of the text.
+pub printed : (s rest : List ℕ) {left : List ℕ} {r : ℕ} → left ≡ textOf s ++ rest → r ≡ length (textOf s) → (r ≤ length left) × (r ≡ length (take r left))
+printed s rest {left} e f =
+    let g : length left ≡ length (textOf s) + length rest = ap length e ∙ length-append (textOf s) rest in
+    (omega arith, simp length-take (omega arith))
