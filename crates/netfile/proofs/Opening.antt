@@ -1,13 +1,12 @@
 -- An entry of the contents, by the three tests that the reader makes in turn: its start, its length and its end.
 use Prim.Native.Nat.{ℕ, zero, suc, _+_, _*_, _%_}
-use mathlib.Core.Path.{_≡_, refl, sym, _∙_}
-use mathlib.Core.Bool.{Bool, true, false, cond, _&&_}
+use mathlib.Core.Path.{_≡_, refl}
+use mathlib.Core.Bool.{true, false}
 use mathlib.Core.List.{List}
-use borrow.Author.Tests.{eq-eqb, ne-eqb, not-true, not-false}
+use borrow.Author.Tests.{eq-eqb, ne-eqb}
 use lib.ListN.{length}
 use lib.Dec.{eqb, leb}
 use Rattle.netfile.specs.Contents.{u32At, rightLength, rightEnd, entryAt}
-use Rattle.netfile.specs.declared.Entry.{Entry}
 use Rattle.netfile.specs.declared.Entry.the-variants.{Open, Closed}
 
 -- The length of the first body is 8.

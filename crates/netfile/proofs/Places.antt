@@ -1,18 +1,17 @@
 -- Where a 9 is given and where not, as the three entries of the contents read.
-use Prim.Native.Nat.{ℕ, zero, suc, _+_, _*_, _-_, _%_, _≤_, _<_}
+use Prim.Native.Nat.{ℕ, _+_, _*_, _-_, _%_, _≤_, _<_}
 use mathlib.Core.Path.{_≡_, refl, sym, ap, _∙_}
-use mathlib.Core.Bool.{Bool, true, false, cond, _&&_, _||_}
+use mathlib.Core.Bool.{Bool, true, false, _&&_}
 use mathlib.Core.Logic.{_↔_, _⊎_, inl, inr}
 use mathlib.Core.List.{List}
 use native.Mathlib.Omega.{arith}
 use native.Mathlib.Decide.{decLt}
-use borrow.Author.Tests.{lt-ltb, le-ltb, ltb-true, ltb-false, leb-true, leb-false, eqb-true, eqb-false, eq-eqb, le-leb}
+use borrow.Author.Tests.{leb-true, eqb-true, eq-eqb, le-leb}
 use lib.ListN.{length}
-use lib.Dec.{ltb, leb, eqb}
+use lib.Dec.{leb, eqb}
 use Rattle.laws.proofs.Booleans.{clash, and-left, and-right, and-both, not-so}
 use Rattle.netfile.proofs.Reading.{short, long, first-closed, second-closed, third-closed, all-open}
-use Rattle.netfile.specs.Contents.{fileLimit, u32At, rightLength, rightEnd, entryAt, withFirst, withSecond, withThird, contentsOf}
-use Rattle.netfile.specs.declared.Entry.{Entry}
+use Rattle.netfile.specs.Contents.{u32At, rightLength, rightEnd, entryAt, contentsOf}
 use Rattle.netfile.specs.declared.Entry.the-variants.{Open, Closed}
 use Rattle.netfile.specs.declared.Contents.{Contents}
 use Rattle.netfile.specs.declared.Contents.the-variants.{Bodies, Malformed}

@@ -1,7 +1,6 @@
 -- The contents and the bodies of a file by what its entries are, and its words by one word at a time.
-use Prim.Native.Nat.{ℕ, zero, suc, _+_, _*_, _-_, _/_, _≤_, _<_}
-use mathlib.Core.Path.{_≡_, refl, sym, ap, _∙_}
-use mathlib.Core.Bool.{Bool, true, false, cond, _||_}
+use Prim.Native.Nat.{ℕ, zero, suc, _+_, _*_, _-_, _≤_, _<_}
+use mathlib.Core.Path.{_≡_, refl, ap, _∙_}
 use mathlib.Core.List.{List, [], _∷_, _++_}
 use native.Mathlib.Omega.{arith}
 use native.Mathlib.Numerals.{add-one}
@@ -9,11 +8,10 @@ use native.Mathlib.Nat.{suc-mul, add-assoc}
 use borrow.Author.Tests.{lt-ltb, le-ltb}
 use lib.ListN.{length, getD, set, take, drop, length-drop}
 use lib.Seq.{getD-drop, take-all}
-use lib.Dec.{ltb}
 use Rattle.laws.specs.Over.{over}
 use Rattle.laws.proofs.Over.{over-one}
 use Rattle.laws.proofs.Booleans.{or-true}
-use Rattle.netfile.specs.Contents.{fileLimit, u16At, u32At, u32s, entryAt, withFirst, withSecond, withThird, contentsOf, bodiesOf}
+use Rattle.netfile.specs.Contents.{fileLimit, u16At, u32At, u32s, entryAt, withFirst, contentsOf, bodiesOf}
 use Rattle.netfile.specs.declared.Entry.{Entry}
 use Rattle.netfile.specs.declared.Entry.the-variants.{Open, Closed}
 use Rattle.netfile.specs.declared.Contents.{Contents}

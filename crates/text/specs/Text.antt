@@ -7,7 +7,7 @@ use Rattle.words.specs.Table.{checkNet, refusalRow}
 use Rattle.words.specs.declared.Checked.{Checked}
 use Rattle.words.specs.declared.Checked.the-variants as checked
 use Rattle.answers.specs.Table.{questioned}
-use Rattle.netfile.specs.Contents.{u16At, u32At, u32s, contentsOf}
+use Rattle.netfile.specs.Contents.{u16At, u32At, u32s, contentsOf, contentsRow}
 use Rattle.netfile.specs.declared.Contents.{Contents}
 use Rattle.netfile.specs.declared.Contents.the-variants.{Bodies, Malformed}
 use Rattle.lines.specs.Line.{decimal, field, lastField, fileWord, netWord, lineOf}
@@ -32,7 +32,7 @@ bodiesText nodes words questions =
 -- The text for a file.
 unfoldable pub fileText : List ℕ → Contents → List ℕ
 fileText s (Bodies e) = bodiesText (take 8 (drop 24 s)) (take (e - 32) (drop 32 s)) (drop e s)
-fileText s (Malformed place) = field fileWord (field (decimal 9) (lastField (decimal place)))
+fileText s (Malformed place) = field fileWord (field (decimal (contentsRow (Malformed place) .number)) (lastField (decimal (contentsRow (Malformed place) .first))))
 
 -- All that `ask` prints.
 abbrev pub textOf : List ℕ → List ℕ

@@ -1,0 +1,288 @@
+//! Times the proved engine against the same algorithm in plain Rust, in one process and by turns, and prints Markdown.
+//! Times are processor time of this process, so that other work on the machine disturbs them little.
+//!
+//! `bench [ratios]`: with `ratios` no times are printed, for a machine on which the code is emulated.
+
+#[path = "../tests/library/answer.rs"]
+mod answer;
+#[path = "../tests/library/engine.rs"]
+#[allow(dead_code)]
+mod engine;
+#[path = "../tests/library/nets.rs"]
+#[allow(dead_code)]
+mod nets;
+#[path = "../tests/library/plain.rs"]
+mod plain;
+#[path = "../tests/library/proved.rs"]
+mod proved;
+#[path = "../tests/library/random.rs"]
+mod random;
+
+use answer::Answer;
+use engine::Engine;
+use nets::{random_net, word, Net};
+use random::Random;
+
+const SEED: u64 = 1;
+/// One turn of an engine lasts at least this many seconds, by repeating the call.
+const TURN: f64 = 0.002;
+/// Turns go on for this many seconds, but at least `FEWEST_TURNS` of them where these do not take too long.
+const SPENT: f64 = 1.0;
+const TOO_LONG: f64 = 10.0;
+const FEWEST_TURNS: usize = 2;
+const MOST_TURNS: usize = 40;
+
+#[derive(Clone, Copy)]
+enum Operation {
+    CheckNet,
+    ForwardScan,
+    Question,
+    Reason,
+    Completion,
+}
+
+const OPERATIONS: [(Operation, &str); 5] = [
+    (Operation::CheckNet, "check of the net"),
+    (Operation::ForwardScan, "forward scan"),
+    (Operation::Question, "question"),
+    (Operation::Reason, "reason"),
+    (Operation::Completion, "completion"),
+];
+
+/// A net and the statement asked of it.
+struct Shape {
+    name: String,
+    net: Net,
+    x: u32,
+    y: u32,
+    sign: u32,
+}
+
+/// The buffers of one engine.
+#[derive(Clone, PartialEq)]
+struct Room {
+    marks: Vec<u8>,
+    words_list: Vec<u32>,
+    scratch: Vec<u16>,
+    reason_list: Vec<u16>,
+}
+
+/// The best time of each engine, and the answer that both gave.
+struct Measured {
+    proved: f64,
+    plain: f64,
+    answer: Answer,
+}
+
+fn main() {
+    let ratios = std::env::args()
+        .nth(1)
+        .map_or(false, |word| word == "ratios");
+    print_operations(
+        ratios,
+        &[
+            random_shape(100, 800, 8_000),
+            chain_shape(900),
+            random_shape(24, 1000, 200_000),
+        ],
+    );
+    println!("\nHow a forward scan's time grows with words (random links on 1,024 nodes):\n");
+    let sizes = [1_000, 4_000, 16_000, 64_000, 256_000, 1_024_000];
+    print_growth(ratios, &sizes.map(|size| random_shape(24, 1000, size)));
+    println!("\nHow it grows with depth (a chain, scanned from its first node):\n");
+    print_growth(ratios, &[50, 100, 200, 400, 800].map(chain_shape));
+}
+
+fn random_shape(o: usize, k: usize, size: usize) -> Shape {
+    let net = random_net(&mut Random::new(SEED, size as u64), o, k, size, 25);
+    let (x, y) = (
+        plain::tail_of(net.words[0]) as u32,
+        plain::head_of(net.words[1]) as u32,
+    );
+    Shape {
+        name: format!("{} nodes, {} random links", o + k, size),
+        net,
+        x,
+        y,
+        sign: 1,
+    }
+}
+
+fn chain_shape(nodes: usize) -> Shape {
+    let words = (1..nodes).map(|v| word(v - 1, v, 0)).collect();
+    let net = Net {
+        o: 1,
+        k: nodes as u32 - 1,
+        words,
+    };
+    Shape {
+        name: format!("a chain of {} nodes", nodes),
+        net,
+        x: 0,
+        y: nodes as u32 - 1,
+        sign: 0,
+    }
+}
+
+fn print_operations(ratios: bool, shapes: &[Shape]) {
+    println!(
+        "| net | operation | {}proved / plain |",
+        if ratios { "" } else { "proved | plain | " }
+    );
+    println!("|---|---|{}---|", if ratios { "" } else { "---|---|" });
+    for shape in shapes {
+        for (operation, name) in OPERATIONS {
+            let best = measure(shape, operation);
+            let times = if ratios {
+                String::new()
+            } else {
+                format!("{} | {} | ", time(best.proved), time(best.plain))
+            };
+            println!(
+                "| {} | {} | {}{:.2} |",
+                shape.name,
+                name,
+                times,
+                best.proved / best.plain
+            );
+        }
+    }
+}
+
+fn print_growth(ratios: bool, shapes: &[Shape]) {
+    println!(
+        "| net | rounds | {}proved / plain |",
+        if ratios {
+            ""
+        } else {
+            "proved | a word and round | "
+        }
+    );
+    println!("|---|---|{}---|", if ratios { "" } else { "---|---|" });
+    for shape in shapes {
+        let best = measure(shape, Operation::ForwardScan);
+        let rounds = best.answer.first;
+        let each = best.proved / (rounds as f64 * shape.net.words.len() as f64);
+        let times = if ratios {
+            String::new()
+        } else {
+            format!("{} | {} | ", time(best.proved), time(each))
+        };
+        println!(
+            "| {} | {} | {}{:.2} |",
+            shape.name,
+            rounds,
+            times,
+            best.proved / best.plain
+        );
+    }
+}
+
+fn time(seconds: f64) -> String {
+    match seconds {
+        s if s < 1e-6 => format!("{:.2} ns", s * 1e9),
+        s if s < 1e-3 => format!("{:.1} µs", s * 1e6),
+        s if s < 1.0 => format!("{:.2} ms", s * 1e3),
+        s => format!("{:.2} s", s),
+    }
+}
+
+/// Both engines by turns; the best time of each. What they answer and leave in the buffers must be equal.
+fn measure(shape: &Shape, operation: Operation) -> Measured {
+    let mut rooms = [room_for(shape), room_for(shape)];
+    let engines = [&proved::ENGINE, &plain::ENGINE];
+    let mut best = [f64::INFINITY; 2];
+    let mut answers = [Answer::new(0, 0, 0); 2];
+    let mut calls = 1;
+    let begun = processor_seconds();
+    for turn in 0..MOST_TURNS {
+        for side in 0..2 {
+            let which = (side + turn) % 2;
+            let from = processor_seconds();
+            for _ in 0..calls {
+                answers[which] = call(opaque(engines[which]), operation, shape, &mut rooms[which]);
+            }
+            best[which] = best[which].min((processor_seconds() - from) / calls as f64);
+        }
+        assert!(
+            answers[0] == answers[1] && rooms[0] == rooms[1],
+            "the engines differ on {}",
+            shape.name
+        );
+        assert!(answers[0].number == 0, "refused on {}", shape.name);
+        let spent = processor_seconds() - begun;
+        if spent > TOO_LONG || (spent > SPENT && turn + 1 >= FEWEST_TURNS) {
+            break;
+        }
+        calls = (TURN / best[1]).ceil().max(1.0) as usize;
+    }
+    Measured {
+        proved: best[0],
+        plain: best[1],
+        answer: answers[0],
+    }
+}
+
+/// The processor time that this process has taken.
+fn processor_seconds() -> f64 {
+    #[repr(C)]
+    struct Time {
+        seconds: i64,
+        nanoseconds: i64,
+    }
+    extern "C" {
+        fn clock_gettime(clock: i32, time: *mut Time) -> i32;
+    }
+    const PROCESSOR_TIME: i32 = 2;
+    let mut time = Time {
+        seconds: 0,
+        nanoseconds: 0,
+    };
+    let failed = unsafe { clock_gettime(PROCESSOR_TIME, &mut time) };
+    assert!(failed == 0, "no clock of processor time");
+    time.seconds as f64 + time.nanoseconds as f64 * 1e-9
+}
+
+/// The engine, so that the compiler does not see which it is.
+fn opaque(engine: &Engine) -> &Engine {
+    unsafe { std::ptr::read_volatile(&engine) }
+}
+
+fn room_for(shape: &Shape) -> Room {
+    let nodes = shape.net.nodes();
+    Room {
+        marks: vec![0; nodes],
+        words_list: vec![0; 2 * nodes * shape.net.k as usize],
+        scratch: vec![0; 2 * nodes],
+        reason_list: vec![0; 2 * nodes + 3],
+    }
+}
+
+fn call(engine: &Engine, operation: Operation, shape: &Shape, room: &mut Room) -> Answer {
+    let Shape {
+        net: Net { o, k, words },
+        x,
+        y,
+        sign,
+        ..
+    } = shape;
+    let (o, k, x, y, sign) = (*o, *k, *x, *y, *sign);
+    match operation {
+        Operation::CheckNet => (engine.check_net)(o, k, words),
+        Operation::ForwardScan => (engine.forward_scan)(o, k, words, x, u32::MAX, &mut room.marks),
+        Operation::Question => (engine.question)(o, k, words, x, y, &mut room.marks),
+        Operation::Reason => (engine.reason)(
+            o,
+            k,
+            words,
+            x,
+            y,
+            sign,
+            &mut room.scratch,
+            &mut room.reason_list,
+        ),
+        Operation::Completion => {
+            (engine.completion)(o, k, words, &mut room.marks, &mut room.words_list)
+        }
+    }
+}

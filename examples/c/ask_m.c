@@ -1,0 +1,62 @@
+/* Asks the questions of net M, prints a line for each as `ask` does, and then the reason why 0 is not 5. */
+#include <stdio.h>
+
+#include "strumelka.h"
+
+enum { OBJECTS = 2, KINDS = 4 };
+
+/* Traces 0 and 1; truncated averages 2, unbiased 3, mean-valid 4, rounded averages 5. */
+static const uint32_t net[] = {
+    STRUMELKA_WORD(0, 2, STRUMELKA_IS),
+    STRUMELKA_WORD(1, 5, STRUMELKA_IS),
+    STRUMELKA_WORD(2, 3, STRUMELKA_IS_NOT),
+    STRUMELKA_WORD(4, 3, STRUMELKA_IS),
+    STRUMELKA_WORD(5, 4, STRUMELKA_IS),
+};
+static const size_t net_len = sizeof net / sizeof net[0];
+
+static const uint32_t questions[][2] = {{0, 4}, {1, 4}, {2, 5}, {3, 4}, {3, 0}};
+
+static const char *const answers[] = {"none", "yes", "no", "both"};
+
+static void ask(uint32_t x, uint32_t y)
+{
+    uint8_t marks[STRUMELKA_MARKS(OBJECTS, KINDS)];
+    struct strumelka_answer answer =
+        strumelka_question(OBJECTS, KINDS, net, net_len, x, y, marks, sizeof marks / sizeof marks[0]);
+    if (answer.number == STRUMELKA_NUMBER_DONE)
+        printf("%u %u %s %u\n", (unsigned)x, (unsigned)y, answers[answer.first], (unsigned)answer.second);
+    else
+        printf("%u %u refused %u\n", (unsigned)x, (unsigned)y, (unsigned)answer.number);
+}
+
+/* Prints the reason for "x is not y"; 0 if there is one. */
+static int reason_against(uint32_t x, uint32_t y)
+{
+    uint16_t scratch[STRUMELKA_SCRATCH(OBJECTS, KINDS)];
+    uint16_t list[STRUMELKA_REASON_LIST(OBJECTS, KINDS)];
+    struct strumelka_answer answer =
+        strumelka_reason(OBJECTS, KINDS, net, net_len, x, y, STRUMELKA_IS_NOT,
+                         scratch, sizeof scratch / sizeof scratch[0], list, sizeof list / sizeof list[0]);
+    if (answer.number != STRUMELKA_NUMBER_DONE) {
+        printf("reason %u -/> %u refused %u\n", (unsigned)x, (unsigned)y, (unsigned)answer.number);
+        return 1;
+    }
+    printf("reason %u -/> %u:", (unsigned)x, (unsigned)y);
+    for (uint32_t i = 0; i < answer.first; i++)
+        printf(" %u", (unsigned)list[i]);
+    printf("\n");
+    return 0;
+}
+
+int main(void)
+{
+    struct strumelka_answer answer = strumelka_check_net(OBJECTS, KINDS, net, net_len);
+    if (answer.number != STRUMELKA_NUMBER_DONE) {
+        printf("net %u %u\n", (unsigned)answer.number, (unsigned)answer.first);
+        return 1;
+    }
+    for (size_t i = 0; i < sizeof questions / sizeof questions[0]; i++)
+        ask(questions[i][0], questions[i][1]);
+    return reason_against(0, 5);
+}

@@ -1,0 +1,175 @@
+/* Strumelka, the proved reasoner: what a C or C++ program links from libstrumelka.a.
+ *
+ * A net has o objects and k kinds. Nodes 0 to o - 1 are the objects, nodes o to o + k - 1 the kinds. A link is one
+ * 32-bit word, STRUMELKA_WORD(tail, head, sign): its tail is any node, its head a kind, its sign says "is" or "is not".
+ * Words stand in any order and may repeat.
+ *
+ * No call needs a check before it: every number and every length is accepted, and a call that cannot be done answers
+ * its number and leaves the buffers as that number's line says. What the caller owes is what C itself cannot say:
+ *
+ *   - A buffer is a pointer and a length, the length counted in elements, not in bytes. All its elements are readable,
+ *     and writable where the pointer is not const.
+ *   - A buffer that is written overlaps no other buffer of the same call.
+ *   - No pointer is null, and each is aligned for its type. This holds for an empty buffer too: pass the address of any
+ *     object of the element's type with length 0. Nothing is read or written through it.
+ *
+ * The library keeps nothing between calls, allocates nothing and calls nothing but memory functions of the C library:
+ * calls from several threads may run at once where they write to different buffers. The code is for x86-64 and the
+ * System V calling convention.
+ */
+#ifndef STRUMELKA_H
+#define STRUMELKA_H
+
+#include <stddef.h>
+#include <stdint.h>
+
+#ifdef __cplusplus
+extern "C" {
+#endif
+
+/* The most nodes a net may have, objects and kinds together, and the most words, repeats counted. */
+#define STRUMELKA_NODE_LIMIT 1024u
+#define STRUMELKA_WORD_LIMIT 2097152u
+
+/* The two signs of a link and of a statement. */
+#define STRUMELKA_IS 0u
+#define STRUMELKA_IS_NOT 1u
+
+/* The word of a link, and a word's three parts. */
+#define STRUMELKA_WORD(tail, head, sign) ((uint32_t)(tail) * 2048u + (uint32_t)(head) * 2u + (uint32_t)(sign))
+#define STRUMELKA_TAIL(word) ((uint32_t)(word) / 2048u)
+#define STRUMELKA_HEAD(word) ((uint32_t)(word) / 2u % 1024u)
+#define STRUMELKA_SIGN(word) ((uint32_t)(word) % 2u)
+
+/* Buffer sizes for a net of o objects and k kinds, in elements; constant where o and k are.
+ * MARKS and SCRATCH are what a call needs, and less is refused. REASON_LIST and COMPLETION_LIST are the most that any
+ * net of that size can need: a shorter list is fine where the result fits it. */
+#define STRUMELKA_MARKS(o, k) ((size_t)(o) + (size_t)(k))
+#define STRUMELKA_SCRATCH(o, k) (2u * STRUMELKA_MARKS(o, k))
+#define STRUMELKA_REASON_LIST(o, k) ((size_t)2 + 2u * (size_t)(k) + ((o) > 0 ? 1u : 0u))
+#define STRUMELKA_COMPLETION_LIST(o, k) (2u * STRUMELKA_MARKS(o, k) * (size_t)(k))
+
+/* The bits of a byte of marks. */
+#define STRUMELKA_MARK_T 1u
+#define STRUMELKA_MARK_F 2u
+#define STRUMELKA_MARK_U 4u
+
+/* What a place of the scratch holds where no way leads to the end. */
+#define STRUMELKA_NO_WAY 65535u
+
+/* The answer to a question. */
+#define STRUMELKA_ANSWER_NONE 0u
+#define STRUMELKA_ANSWER_YES 1u
+#define STRUMELKA_ANSWER_NO 2u
+#define STRUMELKA_ANSWER_BOTH 3u
+
+/* The numbers. Where several apply, the smallest is given. (Number 9 is about net files, which no function here reads.) */
+#define STRUMELKA_NUMBER_DONE 0u
+#define STRUMELKA_NUMBER_TOO_MANY_NODES 1u
+#define STRUMELKA_NUMBER_TOO_MANY_WORDS 2u
+#define STRUMELKA_NUMBER_ILLEGAL_WORD 3u
+#define STRUMELKA_NUMBER_BAD_QUESTION 4u
+#define STRUMELKA_NUMBER_SHORT_BUFFER 5u
+#define STRUMELKA_NUMBER_BUDGET_SPENT 6u
+#define STRUMELKA_NUMBER_NOTHING_FOUND 7u
+#define STRUMELKA_NUMBER_SHORT_LIST 8u
+
+/* What every function answers: the number and up to two values. A value that a line below does not mention is 0. */
+struct strumelka_answer {
+    uint32_t number;
+    uint32_t first;
+    uint32_t second;
+};
+
+/* The check of a net, with which every other function begins.
+ *   0  a legal net; first = its nodes, o + k
+ *   1  o + k is over STRUMELKA_NODE_LIMIT, added without wrapping
+ *   2  words_len is over STRUMELKA_WORD_LIMIT
+ *   3  some word's tail is no node or its head no kind; first = the index of the first such word
+ * In every other function 1, 2 and 3 mean the same, with the same value, and all buffers are as they were. */
+struct strumelka_answer strumelka_check_net(
+    uint32_t o, uint32_t k, const uint32_t *words, size_t words_len);
+
+/* The forward scan from node start, within budget rounds. Afterwards T at a kind means that start is of that kind, F
+ * that it is not; the bytes of objects say nothing.
+ *   0        the scan ended; first = the rounds run, the last one, which set nothing, among them; the first o + k bytes
+ *            of marks are the scan's
+ *   1, 2, 3  as in strumelka_check_net
+ *   4        start is no node; marks unchanged
+ *   5        marks_len is below STRUMELKA_MARKS(o, k); marks unchanged
+ *   6        the scan needs more rounds than budget; first = budget; marks after exactly that many rounds. What they
+ *            say holds, and more may follow
+ * Bytes of marks from o + k on are never touched. A budget of 2 * (o + k) is always enough. */
+struct strumelka_answer strumelka_forward_scan(
+    uint32_t o, uint32_t k, const uint32_t *words, size_t words_len,
+    uint32_t start, uint32_t budget, uint8_t *marks, size_t marks_len);
+
+/* The kind scan from kind start, within budget rounds. Afterwards T at a node means that the node is of kind start, F
+ * that it is not, and U at a kind that start is of that kind.
+ *   0 to 6   as in strumelka_forward_scan; 4 also where start is an object
+ * A budget of 3 * (o + k) is always enough. */
+struct strumelka_answer strumelka_kind_scan(
+    uint32_t o, uint32_t k, const uint32_t *words, size_t words_len,
+    uint32_t start, uint32_t budget, uint8_t *marks, size_t marks_len);
+
+/* The question whether node x is of kind y.
+ *   0        first = STRUMELKA_ANSWER_NONE, _YES, _NO or _BOTH; second = the rounds of the forward scan from x, whose
+ *            marks are left in the first o + k bytes
+ *   1, 2, 3  as in strumelka_check_net
+ *   4        x is no node, or y is no kind; marks unchanged
+ *   5        marks_len is below STRUMELKA_MARKS(o, k); marks unchanged */
+struct strumelka_answer strumelka_question(
+    uint32_t o, uint32_t k, const uint32_t *words, size_t words_len,
+    uint32_t x, uint32_t y, uint8_t *marks, size_t marks_len);
+
+/* The completion: every supported statement as a word, ascending, none twice.
+ *   0        first = the words written to the front of list; places after them unchanged
+ *   1, 2, 3  as in strumelka_check_net
+ *   5        marks_len is below STRUMELKA_MARKS(o, k); marks and list unchanged
+ *   8        list_len is too small; first = the words needed; list unchanged
+ * With 0 and 8 the first o + k bytes of marks are zero afterwards. */
+struct strumelka_answer strumelka_completion(
+    uint32_t o, uint32_t k, const uint32_t *words, size_t words_len,
+    uint8_t *marks, size_t marks_len, uint32_t *list, size_t list_len);
+
+/* The clash test: is some object both of some kind and not of it?
+ *   0        first = the smallest such object; second = its smallest such kind
+ *   1, 2, 3  as in strumelka_check_net
+ *   5        marks_len is below STRUMELKA_MARKS(o, k); marks unchanged
+ *   7        no object clashes
+ * With 0 and 7 the first o + k bytes of marks are zero afterwards. */
+struct strumelka_answer strumelka_clash(
+    uint32_t o, uint32_t k, const uint32_t *words, size_t words_len,
+    uint8_t *marks, size_t marks_len);
+
+/* The shortest reason for a statement: node x is of kind y (sign STRUMELKA_IS), or is not (STRUMELKA_IS_NOT). The list
+ * begins with the sizes of the path's first and second part, and the nodes of both follow.
+ *   0        first = the places written to the front of list; places after them unchanged
+ *   1, 2, 3  as in strumelka_check_net
+ *   4        x is no node, y is no kind, or sign is neither of the two; scratch and list unchanged
+ *   5        scratch_len is below STRUMELKA_SCRATCH(o, k); scratch and list unchanged
+ *   7        the net does not support the statement; list unchanged
+ *   8        list_len is too small; first = the places needed; list unchanged
+ * With 0, 7 and 8 place v of scratch holds the fewest links from node v in the first part to the path's end, and place
+ * o + k + v the same for node v in the second part, STRUMELKA_NO_WAY where there is none. Places of scratch from
+ * 2 * (o + k) on are never touched. */
+struct strumelka_answer strumelka_reason(
+    uint32_t o, uint32_t k, const uint32_t *words, size_t words_len,
+    uint32_t x, uint32_t y, uint32_t sign,
+    uint16_t *scratch, size_t scratch_len, uint16_t *list, size_t list_len);
+
+/* The check of a reason from anybody: is list a path of the net that shows the statement, with nothing after it? A path
+ * may be longer than the shortest and may repeat kinds. Nothing is written.
+ *   0        first = 1 if it is, 0 if not; a list that is empty, cut short or names a node outside the net is not
+ *   1, 2, 3  as in strumelka_check_net
+ *   4        x is no node, y is no kind, or sign is neither of the two */
+struct strumelka_answer strumelka_reason_check(
+    uint32_t o, uint32_t k, const uint32_t *words, size_t words_len,
+    uint32_t x, uint32_t y, uint32_t sign,
+    const uint16_t *list, size_t list_len);
+
+#ifdef __cplusplus
+}
+#endif
+
+#endif
