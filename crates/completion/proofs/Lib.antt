@@ -1,3 +1,5 @@
 pub mod Cells
 pub mod Parts
 pub mod Outcomes
+pub mod CompletionRows
+pub mod Readings

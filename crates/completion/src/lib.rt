@@ -111,8 +111,8 @@ fn write_rows(o: u32, k: u32, n: usize, words: &[u32], marks: &mut [u8], list: &
     let mut x = 0;
     while x < nodes {
         full_scan(o, k, n, words, x, marks);
-        let put = write_row(objects, n, x, marks, &mut list[at..]);
-        at += put;
+        let size = write_row(objects, n, x, marks, &mut list[at..]);
+        at += size;
         x += 1;
     }
 }

@@ -79,9 +79,8 @@ bodies-joined nodes words questions e f g = rw (e, f, g)
 
 -- ── a file ──
 
--- What the reader hands back at each place.
+-- The three bodies that the reader hands back of a file: their text is the file's, and there is room for it.
 pub record Handed (s nodes words questions : List ℕ) : Type 0 where
-  pub nodes-are : nodes ≡ take 8 (drop 24 s)
   pub text-is : bodiesText nodes words questions ≡ textOf s
   pub nodes-room : 8 ≤ length nodes
   pub words-room : length words ≤ 32768
@@ -99,7 +98,6 @@ module _ (s : List ℕ) {c : Contents} (e : c ≡ contentsOf s) where
       let n1 : now (getD r 1 d) ≡ take (q - 32) (drop 32 s) = sym (List·getD-map now r 1 d) ∙ ap (λ (l : List (List ℕ)). getD l 1 (now d)) h in
       let n2 : now (getD r 2 d) ≡ drop q s = sym (List·getD-map now r 2 d) ∙ ap (λ (l : List (List ℕ)). getD l 2 (now d)) h in
       record {
-        nodes-are = n0;
         text-is = rw (n0, n1, n2, ← e, f);
         nodes-room = rw n0 (simp (length-take, length-drop) (omega arith));
         words-room = rw n1 (simp (length-take, length-drop) (omega arith));

@@ -28,12 +28,10 @@ pub mod Distances
 pub mod Shortest
 pub mod Reason
 pub mod Halves
-pub mod WordMoves
 pub mod Searching
 pub mod Deciding
 pub mod Steps
 pub mod Check
-pub mod Checking
 pub mod Demand3
 pub mod Readings
 pub mod Loss

@@ -27,7 +27,9 @@ part-put-bytes-end : tie.Need-part-put-bytes-end
 part-put-bytes-end c = search needs
 
 -- What is lent of the digits is the number in decimal.
-lent : (c : tie.After-put-bytes-arg2) → take (10 - c .before .before .before .before .spell .result) (drop (c .before .before .before .before .spell .result) (c .before .before .before .before .spell .last .0)) ≡ decimal (c .before .before .before .before .before .before .before .args .n)
+lent : (c : tie.After-put-bytes-arg2)
+    → take (10 - c .before .before .before .before .spell .result) (drop (c .before .before .before .before .spell .result) (c .before .before .before .before .spell .last .0))
+    ≡ decimal (c .before .before .before .before .before .before .before .args .n)
 lent c =
     let spelt = c .before .before .before .before in
     spelled (spelt .spell .last .0) _ 10 (spelt .spell .result) (omega arith) (spelt .spell .ensures .0)
@@ -39,7 +41,9 @@ same-length : tie.Need-same-length
 same-length c = search needs
 
 returns : tie.Need-returns
-returns c = wrote-as (ap (λ (f : List ℕ). f ++ c .before .before .before .before .before .before .before .before .before .before .args .after ∷ []) (lent (c .before .before .before))) (c .before .before .put-bytes .ensures)
+returns c =
+    let start = c .before .before .before .before .before .before .before .before .before .before in
+    wrote-as (ap (λ (f : List ℕ). f ++ start .args .after ∷ []) (lent (c .before .before .before))) (c .before .before .put-bytes .ensures)
 
 pub put-number-spec : {M : Type 1} → statement M
 put-number-spec =

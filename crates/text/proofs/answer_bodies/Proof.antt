@@ -25,13 +25,17 @@ slice-aggregate-answer-net : tie.Need-slice-aggregate-answer-net
 slice-aggregate-answer-net c = words-read _ _ (c .before .before .before .before .read-words .last .1 .0) _ (c .before .before .before .before .read-words .ensures)
 
 answer-net-requires : tie.Need-answer-net-requires
-answer-net-requires c κs = let read = words-read _ _ (c .before .before .before .before .before .read-words .last .1 .0) _ (c .before .before .before .before .before .read-words .ensures) in (omega arith, (omega arith, omega arith))
+answer-net-requires c κs =
+    let read = words-read _ _ (c .before .before .before .before .before .read-words .last .1 .0) _ (c .before .before .before .before .before .read-words .ensures) in
+    (omega arith, (omega arith, omega arith))
 
 same-length : tie.Need-same-length
 same-length c = search needs
 
 returns : tie.Need-returns
-returns c = let start = c .before .before .before .before .before .before .before .before .before .before .before .before .before .before in wrote-as (bodies-joined (start .args .nodes .now) (start .args .links .now) (start .args .questions .now) (c .before .before .before .before .before .before .u32-at .ensures) (c .before .before .before .before .before .u32-at2 .ensures) (first-words _ _ (c .before .before .before .before .before .before .before .before .read-words .last .1 .0) _ (c .before .before .before .before .before .before .before .before .read-words .ensures))) (c .before .before .answer-net .ensures)
+returns c =
+    let start = c .before .before .before .before .before .before .before .before .before .before .before .before .before .before in
+    wrote-as (bodies-joined (start .args .nodes .now) (start .args .links .now) (start .args .questions .now) (c .before .before .before .before .before .before .u32-at .ensures) (c .before .before .before .before .before .u32-at2 .ensures) (first-words _ _ (c .before .before .before .before .before .before .before .before .read-words .last .1 .0) _ (c .before .before .before .before .before .before .before .before .read-words .ensures))) (c .before .before .answer-net .ensures)
 
 pub answer-bodies-spec : {M : Type 1} → statement M
 answer-bodies-spec =

@@ -27,7 +27,10 @@ array-copy-out-answer-bodies-3 : tie.Need-array-copy-out-answer-bodies-3
 array-copy-out-answer-bodies-3 c = search needs
 
 answer-bodies-requires : tie.Need-answer-bodies-requires
-answer-bodies-requires c κs = let bodies = handed _ (c .before .before .before .before .before .before .before .read-contents .ensures) now (c .before .before .before .before .read-bodies .result) (record { ptr = (0, 0); name = 0; now = [] }) (c .before .before .before .before .before .enum-told .given .1) (c .before .before .before .before .read-bodies .ensures) in (bodies .nodes-room, (bodies .words-room, (omega arith, omega arith)))
+answer-bodies-requires c κs =
+    let read = c .before .before .before .before in
+    let bodies = handed _ (read .before .before .before .read-contents .ensures) now (read .read-bodies .result) (record { ptr = (0, 0); name = 0; now = [] }) (read .before .enum-told .given .1) (read .read-bodies .ensures) in
+    (bodies .nodes-room, (bodies .words-room, (omega arith, omega arith)))
 
 enum-known-contents : tie.Need-enum-known-contents
 enum-known-contents c = search needs
@@ -39,10 +42,17 @@ put-report-requires : tie.Need-put-report-requires
 put-report-requires c κs = search needs
 
 returns : tie.Need-returns
-returns c = let bodies = handed _ (c .before .before .before .before .before .before .before .before .read-contents .ensures) now (c .before .before .before .before .before .read-bodies .result) (record { ptr = (0, 0); name = 0; now = [] }) (c .before .before .before .before .before .before .enum-told .given .1) (c .before .before .before .before .before .read-bodies .ensures) in let all = wrote-as (bodies .text-is) (c .answer-bodies .ensures) in (all .list, all .size)
+returns c =
+    let read = c .before .before .before .before .before in
+    let bodies = handed _ (read .before .before .before .read-contents .ensures) now (read .read-bodies .result) (record { ptr = (0, 0); name = 0; now = [] }) (read .before .enum-told .given .1) (read .read-bodies .ensures) in
+    let all = wrote-as (bodies .text-is) (c .answer-bodies .ensures) in
+    (all .list, all .size)
 
 returns-2 : tie.Need-returns-2
-returns-2 c = let all = wrote-as (file-report _ (c .before .before .before .before .before .before .read-contents .ensures) (c .before .before .before .before .contents .given .1)) (c .put-report .ensures) in (all .list, all .size)
+returns-2 c =
+    let read = c .before .before .before .before .before .before in
+    let all = wrote-as (file-report _ (read .read-contents .ensures) (c .before .before .before .before .contents .given .1)) (c .put-report .ensures) in
+    (all .list, all .size)
 
 pub answer-file-spec : {M : Type 1} → statement M
 answer-file-spec =

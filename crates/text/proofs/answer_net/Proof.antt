@@ -28,7 +28,9 @@ index-of-requires : tie.Need-index-of-requires
 index-of-requires c κs = search needs
 
 cast-put-report : tie.Need-cast-put-report
-cast-put-report c = let start = c .before .before .before .before .before .before .before .before .before .before .before in omega (arith, index-room (start .args .o) (start .args .k) (start .args .words .now) (c .before .before .before .before .before .before .before .check-net .ensures) (c .before .before .before .before .before .checked .given .1))
+cast-put-report c =
+    let start = c .before .before .before .before .before .before .before .before .before .before .before in
+    omega (arith, index-room (start .args .o) (start .args .k) (start .args .words .now) (c .before .before .before .before .before .before .before .check-net .ensures) (c .before .before .before .before .before .checked .given .1))
 
 put-report-requires : tie.Need-put-report-requires
 put-report-requires c κs = search needs
@@ -37,13 +39,17 @@ same-length : tie.Need-same-length
 same-length c = search needs
 
 returns : tie.Need-returns
-returns c = let start = c .before .before .before .before .before .before .before .before .before .before in wrote-as (net-lines (start .args .o) (start .args .k) (start .args .words .now) (c .before .before .before .before .before .before .check-net .ensures) (start .args .questions .now) (c .before .before .before .before .enum-told .given .1)) (c .before .before .put-lines .ensures)
+returns c =
+    let start = c .before .before .before .before .before .before .before .before .before .before in
+    wrote-as (net-lines (start .args .o) (start .args .k) (start .args .words .now) (c .before .before .before .before .before .before .check-net .ensures) (start .args .questions .now) (c .before .before .before .before .enum-told .given .1)) (c .before .before .put-lines .ensures)
 
 same-length-2 : tie.Need-same-length-2
 same-length-2 c = search needs
 
 returns-2 : tie.Need-returns-2
-returns-2 c = let start = c .before .before .before .before .before .before .before .before .before .before .before .before .before .before in wrote-as (net-report (start .args .o) (start .args .k) (start .args .words .now) (c .before .before .before .before .before .before .before .before .before .before .check-net .ensures) (start .args .questions .now) (c .before .before .before .before .before .before .before .before .checked .given .1) (c .before .before .before .before .number-of .ensures) (c .before .before .before .index-of .ensures)) (c .before .before .put-report .ensures)
+returns-2 c =
+    let start = c .before .before .before .before .before .before .before .before .before .before .before .before .before .before in
+    wrote-as (net-report (start .args .o) (start .args .k) (start .args .words .now) (c .before .before .before .before .before .before .before .before .before .before .check-net .ensures) (start .args .questions .now) (c .before .before .before .before .before .before .before .before .checked .given .1) (c .before .before .before .before .number-of .ensures) (c .before .before .before .index-of .ensures)) (c .before .before .put-report .ensures)
 
 pub answer-net-spec : {M : Type 1} → statement M
 answer-net-spec =

@@ -101,7 +101,9 @@ same-length : tie.Need-same-length Inv-loop μ-loop
 same-length c = omega (arith, room (c .before .loop .inv .1 .1 .1) (fits (c .before)))
 
 returns : tie.Need-returns Inv-loop μ-loop
-returns c = let a = c .before .before .before .before .before .args in lines-written (a .o) (a .k) (a .words .now) (a .questions .now) (a .text .now) (omega arith) (c .before .loop .inv .1 .1 .1)
+returns c =
+    let a = c .before .before .before .before .before .args in
+    lines-written (a .o) (a .k) (a .words .now) (a .questions .now) (a .text .now) (omega arith) (c .before .loop .inv .1 .1 .1)
 
 pub put-lines-spec : {M : Type 1} → statement M
 put-lines-spec =

@@ -1,0 +1,164 @@
+-- Demand 1: what each operation's statement says is what its number table says, read from the top.
+use Prim.Native.Nat.{ℕ, _+_, _-_, _%_}
+use mathlib.Core.Path.{_≡_, refl, ap}
+use mathlib.Core.Bool.{Bool, true, false, cond, not, _&&_, _||_}
+use mathlib.Core.List.{List, [], _∷_, _++_}
+use lib.Dec.{ltb, leb, eqb}
+use lib.ListN.{length, drop, take}
+use Rattle.laws.proofs.Booleans.{or-false}
+use Rattle.theory.specs.Words.{nodeLimit, wordLimit}
+use Rattle.theory.specs.Marks.{forward, kindly, forwardStart, kindStart}
+use Rattle.theory.specs.Scans.{after, rounds}
+use Rattle.theory.specs.declared.Command.{Command}
+use Rattle.theory.proofs.Budgets.{spent-marks}
+use Rattle.words.specs.Legal.{legalPrefix}
+use Rattle.words.specs.Table.{checkNet}
+use Rattle.words.specs.declared.Refusal.{Refusal}
+use Rattle.words.specs.declared.Refusal.the-variants.{TooManyNodes, TooManyWords, IllegalWord, BadQuestion, ShortBuffer}
+use Rattle.words.specs.declared.Checked.{Checked}
+use Rattle.words.specs.declared.Checked.the-variants as checked
+use Rattle.machine.specs.Scanning.{outcome, ran, scanNet, scanChecked, forwardScanned, kindScanned}
+use Rattle.machine.specs.declared.Scanned.the-variants as scanned
+use Rattle.answers.specs.declared.Asked.the-variants as asked
+use Rattle.answers.specs.Table.{question, questionNet, questionChecked, questioned, clash, cleared, clashNodes, firstClash, clashedRow, clashNet, clashChecked, clashedBy}
+use Rattle.answers.specs.declared.Clashed.{Clashed}
+use Rattle.answers.specs.declared.Clashed.the-variants as clashed
+use Rattle.completion.specs.Table.{completionNet, completionChecked, completedBy, completion}
+use Rattle.completion.specs.declared.Completed.the-variants as completed
+use Rattle.reasons.specs.Table.{reasonNet, reasonChecked, reasoned, reason}
+use Rattle.reasons.specs.declared.Reasoned.the-variants as reasonedAs
+use Rattle.checks.specs.Table.{verdictNet, verdictChecked, verdict}
+use Rattle.checks.specs.declared.Verdict.the-variants as verdictAs
+use Rattle.netfile.specs.Contents.{u32At, fileLimit, entryAt, contentsOf, bodiesOf, withFirst, withSecond, withThird}
+use Rattle.netfile.specs.declared.Entry.the-variants.{Open, Closed}
+use Rattle.netfile.specs.declared.Contents.{Contents}
+use Rattle.netfile.specs.declared.Contents.the-variants.{Bodies, Malformed}
+use Rattle.promises.specs.Tables.{call}
+use Rattle.promises.specs.Calls.{forwardTable, forwardDone, kindTable, kindDone, questionTable, questionDone, clashTable, clashDone, completionTable, completionDone, reasonTable, reasonDone, checkTable, checkDone, Reading, reading, readFrom, wordsAt, questionsAt, fileTable, fileDone}
+
+-- A call on a net: refused by line 1, 2 or 3 as the check of the net is, and otherwise as on its nodes.
+module _ {A : Type 0} (f : Checked → A) (refused : Refusal → A) (passes-on : (r : Refusal) → f (checked.Refused r) ≡ refused r) (o k : ℕ) (ws : List ℕ) where
+  on-net : {end : A} → f (checked.Nodes (o + k)) ≡ end
+      → f (checkNet o k ws)
+      ≡ cond (ltb nodeLimit (o + k)) (refused TooManyNodes)
+      (cond (ltb wordLimit (length ws)) (refused TooManyWords)
+      (cond (ltb (legalPrefix o (o + k) ws) (length ws)) (refused (IllegalWord (legalPrefix o (o + k) ws))) end))
+  unfolding checkNet
+  on-net {end = end} e = at (ltb nodeLimit (o + k)) (ltb wordLimit (length ws)) (ltb (legalPrefix o (o + k) ws) (length ws))
+    where
+      at : (a b c : Bool)
+          → f (cond a (checked.Refused TooManyNodes) (cond b (checked.Refused TooManyWords) (cond c (checked.Refused (IllegalWord (legalPrefix o (o + k) ws))) (checked.Nodes (o + k)))))
+          ≡ cond a (refused TooManyNodes) (cond b (refused TooManyWords) (cond c (refused (IllegalWord (legalPrefix o (o + k) ws))) end))
+      at true b c = passes-on TooManyNodes
+      at false true c = passes-on TooManyWords
+      at false false true = passes-on (IllegalWord (legalPrefix o (o + k) ws))
+      at false false false = e
+
+-- Line 6 and a scan that is done: where the budget is spent, the marks are those after that many rounds.
+scan-over : (cs : List Command) (ws m : List ℕ) (budget : ℕ) (past : List ℕ)
+    → ran (rounds cs ws 0 budget m) past
+    ≡ cond (not (rounds cs ws 0 budget m .done)) (outcome (scanned.Spent budget) (after cs ws budget m ++ past))
+    (outcome (scanned.Done (rounds cs ws 0 budget m .count)) (rounds cs ws 0 budget m .marks ++ past))
+scan-over cs ws m budget past = at (rounds cs ws 0 budget m .done) refl
+  where
+    at : (d : Bool) → rounds cs ws 0 budget m .done ≡ d
+        → outcome (cond d (scanned.Done (rounds cs ws 0 budget m .count)) (scanned.Spent (rounds cs ws 0 budget m .count))) (rounds cs ws 0 budget m .marks ++ past)
+        ≡ cond (not d) (outcome (scanned.Spent budget) (after cs ws budget m ++ past))
+        (outcome (scanned.Done (rounds cs ws 0 budget m .count)) (rounds cs ws 0 budget m .marks ++ past))
+    at true e = refl
+    at false e = let s = spent-marks cs ws m budget e in rw (s .0, s .1)
+
+-- Line 7 of the clash test and a clash found.
+clash-over : (c : Clashed) (m : List ℕ) → clash c m ≡ cond (eqb (clashedRow c .number) 7) (clash clashed.Nowhere m) (clash c m)
+clash-over (clashed.At x y) m = refl
+clash-over clashed.Nowhere m = refl
+clash-over (clashed.Refused TooManyNodes) m = refl
+clash-over (clashed.Refused TooManyWords) m = refl
+clash-over (clashed.Refused (IllegalWord i)) m = refl
+clash-over (clashed.Refused BadQuestion) m = refl
+clash-over (clashed.Refused ShortBuffer) m = refl
+
+-- The same outcome after two lines that may apply before.
+after-two : {A : Type 0} (a b : Bool) (u v : A) {r q : A} → r ≡ q → cond a u (cond b v r) ≡ cond a u (cond b v q)
+after-two a b u v e = rw e
+
+module _ (o k : ℕ) (ws : List ℕ) where
+  -- The forward scan.
+  pub forward-called : (x budget : ℕ) (m : List ℕ) → forwardScanned o k ws x budget m ≡ call (forwardTable o k ws x budget m) (forwardDone o k ws x budget m)
+  unfolding scanChecked scanNet
+  forward-called x budget m =
+      on-net (scanChecked false o ws x budget m) (λ r. outcome (scanned.Refused r) m) (λ r. refl) o k ws
+      (rw (or-false (leb (o + k) x)) (after-two (leb (o + k) x) (ltb (length m) (o + k)) _ _ (scan-over forward ws (forwardStart (o + k) x) budget (drop (o + k) m))))
+
+  -- The kind scan.
+  pub kind-called : (y budget : ℕ) (m : List ℕ) → kindScanned o k ws y budget m ≡ call (kindTable o k ws y budget m) (kindDone o k ws y budget m)
+  unfolding scanChecked scanNet
+  kind-called y budget m =
+      on-net (scanChecked true o ws y budget m) (λ r. outcome (scanned.Refused r) m) (λ r. refl) o k ws
+      (after-two (leb (o + k) y || ltb y o) (ltb (length m) (o + k)) _ _ (scan-over kindly ws (kindStart (o + k) y) budget (drop (o + k) m)))
+
+  -- The question.
+  pub question-called : (x y : ℕ) (m : List ℕ) → questioned o k ws x y m ≡ call (questionTable o k ws x y m) (questionDone o k ws x y m)
+  unfolding questionChecked questionNet
+  question-called x y m = on-net (questionChecked o ws x y m) (λ r. question (asked.Refused r) m) (λ r. refl) o k ws refl
+
+  -- The clash test.
+  pub clash-called : (m : List ℕ) → clashedBy o k ws m ≡ call (clashTable o k ws m) (clashDone o k ws m)
+  unfolding clashChecked clashNet
+  clash-called m = on-net (clashChecked o k ws m) (λ r. clash (clashed.Refused r) m) (λ r. refl) o k ws
+      (ap (cond (ltb (length m) (o + k)) (clash (clashed.Refused ShortBuffer) m)) (clash-over (firstClash o k ws 0 (clashNodes o k)) (cleared (o + k) m)))
+
+  -- The completion.
+  pub completion-called : (m l : List ℕ) → completedBy o k ws m l ≡ call (completionTable o k ws m l) (completionDone o k ws m l)
+  unfolding completionChecked completionNet
+  completion-called m l = on-net (completionChecked o k ws m l) (λ r. completion (completed.Refused r) m l) (λ r. refl) o k ws refl
+
+  -- The reason.
+  pub reason-called : (x y sign : ℕ) (d l : List ℕ) → reasoned o k ws x y sign d l ≡ call (reasonTable o k ws x y sign d l) (reasonDone o k ws x y sign d l)
+  unfolding reasonChecked reasonNet
+  reason-called x y sign d l = on-net (reasonChecked o ws x y sign d l) (λ r. reason (reasonedAs.Refused r) d l) (λ r. refl) o k ws refl
+
+  -- The reason check.
+  pub check-called : (x y sign : ℕ) (l : List ℕ) → verdict o k ws x y sign l ≡ call (checkTable o k ws x y sign l) (checkDone o k ws x y sign l)
+  unfolding verdictChecked verdictNet
+  check-called x y sign l = on-net (verdictChecked o k ws x y sign l) verdictAs.Refused (λ r. refl) o k ws refl
+
+module _ (s : List ℕ) where
+  -- A reading of the contents c.
+  abbrev read : Contents → Reading
+  read c = reading c (bodiesOf s c)
+
+  abbrev malformed : ℕ → Reading
+  malformed place = reading (Malformed place) ([] ∷ [] ∷ [] ∷ [])
+
+  -- Each entry that cannot be opened ends the reading with its place.
+  third-read : (from end : ℕ) (q : Bool)
+      → read (withThird (cond q (Open from end) Closed))
+      ≡ cond (not q) (malformed 2) (reading (Bodies from) (take 8 (drop 24 s) ∷ take (from - 32) (drop 32 s) ∷ drop from s ∷ []))
+  unfolding bodiesOf
+  third-read from end true = refl
+  third-read from end false = refl
+
+  second-read : (from end : ℕ) (q : Bool) {r : Reading} → read (withThird (entryAt s 2 end)) ≡ r → read (withSecond s (cond q (Open from end) Closed)) ≡ cond (not q) (malformed 1) r
+  unfolding bodiesOf
+  second-read from end true e = e
+  second-read from end false e = refl
+
+  first-read : (from end : ℕ) (q : Bool) {r : Reading} → read (withSecond s (entryAt s 1 end)) ≡ r → read (withFirst s (cond q (Open from end) Closed)) ≡ cond (not q) (malformed 0) r
+  unfolding bodiesOf
+  first-read from end true e = e
+  first-read from end false e = refl
+
+  size-read : (q : Bool) (c : Contents) {r : Reading} → read c ≡ r → read (cond q (Malformed 3) c) ≡ cond q (malformed 3) r
+  unfolding bodiesOf
+  size-read true c e = refl
+  size-read false c e = e
+
+  -- The file reader.
+  pub file-called : readFrom s ≡ call (fileTable s) (fileDone s)
+  unfolding contentsOf entryAt
+  file-called =
+      size-read (ltb (length s) 24 || ltb fileLimit (length s)) (withFirst s (entryAt s 0 24))
+      (first-read 24 (wordsAt s) (eqb (u32At s 0) 24 && (eqb (u32At s 4) 8 && leb (wordsAt s) (length s)))
+      (second-read (wordsAt s) (questionsAt s) (eqb (u32At s 8) (wordsAt s) && (eqb (u32At s 12 % 4) 0 && leb (questionsAt s) (length s)))
+      (third-read (questionsAt s) (questionsAt s + u32At s 20) (eqb (u32At s 16) (questionsAt s) && (eqb (u32At s 20 % 4) 0 && eqb (questionsAt s + u32At s 20) (length s))))))

@@ -1,0 +1,32 @@
+-- All bench readings marked P, under one theorem, by computation.
+use mathlib.Core.Path.{_≡_, refl}
+use mathlib.Core.Bool.{true}
+use mathlib.Core.List.{List, _∷_, List·Memᴰ, List·Memᴰ·head, List·Memᴰ·tail}
+use Rattle.laws.proofs.Booleans.{and-left, and-right}
+use Rattle.theory.specs.Marks.{mark, link, links, command, round}
+use Rattle.theory.specs.Scans.{same, rounds}
+use Rattle.theory.specs.Completion.{row, rows, complete}
+use Rattle.theory.specs.Searches.{arcs, level, levels, distances, next, descend, reasonStates, firsts, reasonList}
+use Rattle.theory.proofs.Rounds.{same-eq}
+use Rattle.words.specs.Legal.{legalPrefix}
+use Rattle.words.specs.Table.{checkNet}
+use Rattle.machine.specs.Scanning.{scanNet, scanChecked}
+use Rattle.answers.specs.Table.{questionNet, questionChecked, firstBoth, firstClash, clashNet, clashChecked}
+use Rattle.completion.specs.Table.{completionNet, completionChecked}
+use Rattle.reasons.specs.Table.{reasonNet, reasonChecked}
+use Rattle.promises.specs.Readings.{Entry, readings, allAgree}
+
+-- The statements give every reading as the paper has it.
+pub all-agree : allAgree readings ≡ true
+unfolding allAgree same checkNet legalPrefix scanNet scanChecked questionNet questionChecked firstBoth firstClash clashNet clashChecked completionNet completionChecked reasonNet reasonChecked rounds round command links link mark complete rows row arcs level levels distances next descend reasonStates firsts reasonList
+all-agree = refl
+
+-- Where all entries of a table agree, each is an equation.
+agreeing : (es : List Entry) → allAgree es ≡ true → (e : Entry) → List·Memᴰ e es → e .gives ≡ e .paper
+unfolding allAgree
+agreeing (a ∷ es) h e (List·Memᴰ·head p) = rw p (same-eq (a .gives) (a .paper) (and-left (same (a .gives) (a .paper)) (allAgree es) h))
+agreeing (a ∷ es) h e (List·Memᴰ·tail m) = agreeing es (and-right (same (a .gives) (a .paper)) (allAgree es) h) e m
+
+-- So each reading is what the paper says.
+pub each-reading : (e : Entry) → List·Memᴰ e readings → e .gives ≡ e .paper
+each-reading = agreeing readings all-agree

@@ -1,0 +1,187 @@
+-- Our engine's reasons are the shortest, and its check accepts exactly the paths that show the statement.
+use Prim.Native.Nat.{ℕ, _+_, _≤_, _<_}
+use mathlib.Core.Path.{_≡_, refl, sym, ap, _∙_}
+use mathlib.Core.Bool.{Bool, true, false, cond, _||_}
+use mathlib.Core.List.{List, _++_}
+use mathlib.Core.Logic.{_⊎_, inl, inr}
+use native.Mathlib.Omega.{arith}
+use lib.Dec.{eqb, ltb, leb}
+use lib.ListN.{length, getD, drop, List·getD-append}
+use borrow.Author.Tests.{leb-false, ltb-true, ltb-false, eqb-false}
+use Rattle.laws.proofs.Booleans.{clash, or-none-left, or-none-right}
+use Rattle.theory.specs.Words.{Sign, signAt}
+use Rattle.theory.specs.Nets.{Kind, Links, Net}
+use Rattle.theory.specs.Support.{Supported}
+use Rattle.theory.specs.Reasons.{written, never, Moves, goal, Distance}
+use Rattle.theory.specs.Searches.{distances}
+use Rattle.theory.specs.Checks.{Passes, passes}
+use Rattle.theory.proofs.Distances.{distances-small, distances-length, distances-right}
+use Rattle.theory.proofs.Reason.{reason-shortest}
+use Rattle.theory.proofs.Check.{passes-exactly, passes-supported}
+use Rattle.words.specs.declared.Refusal.{Refusal}
+use Rattle.reasons.specs.Table.{Reason, reasoned, reasonedRow}
+use Rattle.reasons.specs.declared.Reasoned.{Reasoned}
+use Rattle.reasons.specs.declared.Reasoned.the-variants as reasonedAs
+use Rattle.checks.specs.Table.{verdict, verdictRow}
+use Rattle.checks.specs.declared.Verdict.{Verdict}
+use Rattle.checks.specs.declared.Verdict.the-variants.{Holds, Fails}
+use Rattle.promises.specs.Calls.{reasonOf, filled}
+use Rattle.promises.specs.Engines.{ours}
+use Rattle.promises.specs.Reasoning.{ReasonOf, Reasoning}
+use Rattle.promises.proofs.Demand1.{reason-obeys, check-obeys}
+use Rattle.promises.proofs.Tests.{past-line-3, line-7-reason}
+
+-- What a statement asked about has to be, where line 4 does not apply.
+module _ (o k x y sign : ℕ) (e : ((leb (o + k) x || (ltb y o || leb (o + k) y)) || ltb 1 sign) ≡ false) where
+  pair : (leb (o + k) x || (ltb y o || leb (o + k) y)) ≡ false
+  pair = or-none-left (leb (o + k) x || (ltb y o || leb (o + k) y)) (ltb 1 sign) e
+
+  node-of : x < o + k
+  node-of = leb-false (o + k) x (or-none-left (leb (o + k) x) (ltb y o || leb (o + k) y) pair)
+
+  kind-of : Kind o k y
+  kind-of =
+      let r = or-none-right (leb (o + k) x) (ltb y o || leb (o + k) y) pair in
+      record { low = ltb-false y o (or-none-left (ltb y o) (leb (o + k) y) r); high = leb-false (o + k) y (or-none-right (ltb y o) (leb (o + k) y) r) }
+
+module _ (o k : ℕ) (ws : List ℕ) (x y sign : ℕ) where
+  abbrev s : Sign
+  s = signAt sign
+
+  -- A reason that is supported, as the theory has it.
+  module _ (net : Net o k ws) (node : x < o + k) (kind : Kind o k y) (some : eqb (getD (distances (o + k) s ws y) x never) never ≡ false) where
+    near : getD (distances (o + k) s ws y) x never < never
+    near = at (distances-small o k ws net y kind s x)
+      where
+        at : (getD (distances (o + k) s ws y) x never < o + k + (o + k)) ⊎ (getD (distances (o + k) s ws y) x never ≡ never) → getD (distances (o + k) s ws y) x never < never
+        at (inl l) = omega (arith, net .few)
+        at (inr e) = absurd (eqb-false (getD (distances (o + k) s ws y) x never) never some e)
+
+    reason-of : (size : ℕ) → length (reasonOf o k ws x y sign) ≡ size → (r : ReasonOf o k ws x y sign size) × (reasonOf o k ws x y sign ≡ written x (r .xs) (r .ys))
+    reason-of size e =
+        let r = reason-shortest o k ws net x node y kind s near in
+        (record { xs = r .xs; ys = r .ys; shortest = r .shortest; long = sym e ∙ ap (length {A = ℕ}) (r .list) }, r .list)
+
+  module _ (d l : List ℕ) where
+    -- A reason that was done.
+    record Found (size : ℕ) : Type 0 where
+      net : Net o k ws
+      node : x < o + k
+      kind : Kind o k y
+      some : eqb (getD (distances (o + k) s ws y) x never) never ≡ false
+      size-is : length (reasonOf o k ws x y sign) ≡ size
+
+    found : (size : ℕ) → reasoned o k ws x y sign d l .answer ≡ reasonedAs.Done size
+        → Found size × (reasoned o k ws x y sign d l .list ≡ reasonOf o k ws x y sign ++ drop size l) × (size ≤ length l)
+        × (reasoned o k ws x y sign d l .scratch ≡ filled o k ws y sign d)
+    found size e =
+        let u = reason-obeys o k ws x y sign d l .exactly 0 .0 (ap (λ (r : Reasoned). reasonedRow r .number) e) in
+        let q = reason-obeys o k ws x y sign d l .leaves 0 u in
+        let z : length (reasonOf o k ws x y sign) ≡ size = ap (λ (r : Reasoned). reasonedRow r .first) (sym (ap (λ (r : Reason). r .answer) q) ∙ e) in
+        let room = ltb-false (length l) (length (reasonOf o k ws x y sign)) (u .1 .1 .1 .1 .1 .1 .0) in (
+          record {
+            net = past-line-3 o k ws .0 (u .0, u .1 .0, u .1 .1 .0);
+            node = node-of o k x y sign (u .1 .1 .1 .0);
+            kind = kind-of o k x y sign (u .1 .1 .1 .0);
+            some = u .1 .1 .1 .1 .1 .0;
+            size-is = z;
+          },
+          ap (λ (r : Reason). r .list) q ∙ ap (λ (n : ℕ). reasonOf o k ws x y sign ++ drop n l) z,
+          omega arith,
+          ap (λ (r : Reason). r .scratch) q,
+        )
+
+    reason-done : (size : ℕ) → reasoned o k ws x y sign d l .answer ≡ reasonedAs.Done size
+        → (r : ReasonOf o k ws x y sign size) × (reasoned o k ws x y sign d l .list ≡ written x (r .xs) (r .ys) ++ drop size l) × (size ≤ length l)
+    reason-done size e =
+        let (f, list, room, scratch) = found size e in
+        let (r, w) = reason-of (f .net) (f .node) (f .kind) (f .some) size (f .size-is) in
+        (r, list ∙ ap (λ (all : List ℕ). all ++ drop size l) w, room)
+
+    -- A reason that was not refused left the distances in the scratch.
+    record Scratched : Type 0 where
+      net : Net o k ws
+      kind : Kind o k y
+      filled-by : reasoned o k ws x y sign d l .scratch ≡ filled o k ws y sign d
+
+    scratched : ((r : Refusal) → reasoned o k ws x y sign d l .answer ≡ reasonedAs.Refused r → ⊥) → Scratched
+    scratched h = at (reasoned o k ws x y sign d l .answer) refl
+      where
+        at : (a : Reasoned) → reasoned o k ws x y sign d l .answer ≡ a → Scratched
+        at (reasonedAs.Done size) e = let (f, list, room, scratch) = found size e in record { net = f .net; kind = f .kind; filled-by = scratch }
+        at reasonedAs.Unsupported e =
+            let u = reason-obeys o k ws x y sign d l .exactly 7 .0 (ap (λ (r : Reasoned). reasonedRow r .number) e) in
+            record {
+              net = past-line-3 o k ws .0 (u .0, u .1 .0, u .1 .1 .0);
+              kind = kind-of o k x y sign (u .1 .1 .1 .0);
+              filled-by = ap (λ (r : Reason). r .scratch) (reason-obeys o k ws x y sign d l .leaves 7 u);
+            }
+        at (reasonedAs.Short size) e =
+            let u = reason-obeys o k ws x y sign d l .exactly 8 .0 (ap (λ (r : Reasoned). reasonedRow r .number) e) in
+            record {
+              net = past-line-3 o k ws .0 (u .0, u .1 .0, u .1 .1 .0);
+              kind = kind-of o k x y sign (u .1 .1 .1 .0);
+              filled-by = ap (λ (r : Reason). r .scratch) (reason-obeys o k ws x y sign d l .leaves 8 u);
+            }
+        at (reasonedAs.Refused r) e = absurd (h r e)
+
+    scratch-right : ((r : Refusal) → reasoned o k ws x y sign d l .answer ≡ reasonedAs.Refused r → ⊥) → (v : ℕ) → v < (o + k) + (o + k)
+        → Distance (Moves (o + k) (Links ws) s) (goal (o + k) s y) v (getD (reasoned o k ws x y sign d l .scratch) v never)
+    scratch-right h v i =
+        let t = scratched h in
+        let b : getD (reasoned o k ws x y sign d l .scratch) v never ≡ getD (distances (o + k) s ws y) v never =
+        ap (λ (q : List ℕ). getD q v never) (t .filled-by)
+        ∙ List·getD-append (distances (o + k) s ws y) (drop ((o + k) + (o + k)) d) never v (omega (arith, distances-length (o + k) s ws y)) in
+        rw b (distances-right o k ws (t .net) y (t .kind) s v i)
+
+    reason-unsupported : reasoned o k ws x y sign d l .answer ≡ reasonedAs.Unsupported → Supported o k (Links ws) x y s → ⊥
+    reason-unsupported e =
+        let u = reason-obeys o k ws x y sign d l .exactly 7 .0 (ap (λ (r : Reasoned). reasonedRow r .number) e) in
+        line-7-reason o k ws (past-line-3 o k ws .0 (u .0, u .1 .0, u .1 .1 .0)) x (node-of o k x y sign (u .1 .1 .1 .0)) y (kind-of o k x y sign (u .1 .1 .1 .0)) s .0 (u .1 .1 .1 .1 .1)
+
+    reason-short : (size : ℕ) → reasoned o k ws x y sign d l .answer ≡ reasonedAs.Short size → ReasonOf o k ws x y sign size × (length l < size)
+    reason-short size e =
+        let u = reason-obeys o k ws x y sign d l .exactly 8 .0 (ap (λ (r : Reasoned). reasonedRow r .number) e) in
+        let q = reason-obeys o k ws x y sign d l .leaves 8 u in
+        let z : length (reasonOf o k ws x y sign) ≡ size = ap (λ (r : Reasoned). reasonedRow r .first) (sym (ap (λ (r : Reason). r .answer) q) ∙ e) in
+        let net = past-line-3 o k ws .0 (u .0, u .1 .0, u .1 .1 .0) in
+        let less : length l < length (reasonOf o k ws x y sign) = ltb-true (length l) (length (reasonOf o k ws x y sign)) (u .1 .1 .1 .1 .1 .1) in
+        (reason-of net (node-of o k x y sign (u .1 .1 .1 .0)) (kind-of o k x y sign (u .1 .1 .1 .0)) (u .1 .1 .1 .1 .1 .0) size z .0, omega arith)
+
+  module _ (l : List ℕ) where
+    -- A check that was not refused: over a net, about a kind, and its verdict is the test's.
+    checked : verdictRow (verdict o k ws x y sign l) .number ≡ 0 → Net o k ws × Kind o k y × (verdict o k ws x y sign l ≡ cond (passes o k ws x y s l) Holds Fails)
+    checked e =
+        let u = check-obeys o k ws x y sign l .exactly 0 .0 e in
+        (past-line-3 o k ws .0 (u .0, u .1 .0, u .1 .1 .0), kind-of o k x y sign (u .1 .1 .1 .0), check-obeys o k ws x y sign l .leaves 0 u)
+
+    -- Which verdict it was tells the test.
+    was-true : (q : Bool) → Holds ≡ cond q Holds Fails → q ≡ true
+    was-true true e = refl
+    was-true false e = clash (ap (λ (r : Verdict). eqb (verdictRow r .first) 0) e)
+
+    was-false : (q : Bool) → Fails ≡ cond q Holds Fails → q ≡ false
+    was-false true e = clash (sym (ap (λ (r : Verdict). eqb (verdictRow r .first) 0) e))
+    was-false false e = refl
+
+    check-holds : verdict o k ws x y sign l ≡ Holds → Net o k ws × Passes o k ws x y s l
+    check-holds e =
+        let (net, kind, v) = checked (ap (λ (r : Verdict). verdictRow r .number) e) in
+        (net, passes-exactly o k ws x y s l kind .0 (was-true (passes o k ws x y s l) (sym e ∙ v)))
+
+    check-fails : verdict o k ws x y sign l ≡ Fails → Passes o k ws x y s l → ⊥
+    check-fails e p =
+        let (net, kind, v) = checked (ap (λ (r : Verdict). verdictRow r .number) e) in
+        clash (sym (was-false (passes o k ws x y s l) (sym e ∙ v)) ∙ passes-exactly o k ws x y s l kind .1 p)
+
+-- Our engine keeps what is promised of reasons.
+pub reasoning : Reasoning ours
+reasoning = record {
+  done = reason-done;
+  unsupported = reason-unsupported;
+  short = reason-short;
+  scratch = scratch-right;
+  holds = λ o k ws x y sign l e. check-holds o k ws x y sign l e .1;
+  fails = check-fails;
+  sound = λ o k ws x y sign l e. let (net, p) = check-holds o k ws x y sign l e in passes-supported o k ws x y (signAt sign) l (net .legal) p;
+}

@@ -1,0 +1,19 @@
+-- A clash: an object with both answers at a kind; and the smallest one.
+use Prim.Native.Nat.{ℕ, _≤_, _<_}
+use mathlib.Core.List.{List}
+use Rattle.theory.specs.Words.{is, isnt}
+use Rattle.theory.specs.Nets.{Kind, Links}
+use Rattle.theory.specs.Support.{Supported}
+
+-- The net supports both x → y and x ↛ y of the object x.
+pub record ClashAt (o k : ℕ) (ws : List ℕ) (x y : ℕ) : Type 0 where
+  pub object : x < o
+  pub kind : Kind o k y
+  pub isYes : Supported o k (Links ws) x y is
+  pub isNo : Supported o k (Links ws) x y isnt
+
+-- The smallest object that clashes, with its smallest kind.
+pub record SmallestClash (o k : ℕ) (ws : List ℕ) (x y : ℕ) : Type 0 where
+  pub clash : ClashAt o k ws x y
+  pub object : (u v : ℕ) → ClashAt o k ws u v → x ≤ u
+  pub kind : (v : ℕ) → ClashAt o k ws x v → y ≤ v

@@ -1,0 +1,22 @@
+-- Demand 1: whatever numbers and buffers it is lent, each operation gives the number that is due by its table and leaves each buffer as that line says.
+use Prim.Native.Nat.{ℕ}
+use mathlib.Core.List.{List}
+use Rattle.promises.specs.Tables.{Obeys}
+use Rattle.promises.specs.Calls.{forwardTable, forwardDone, kindTable, kindDone, questionTable, questionDone, clashTable, clashDone, completionTable, completionDone, reasonTable, reasonDone, checkTable, checkDone}
+use Rattle.promises.specs.Numbers.{scanNumber, questionNumber, clashNumber, completionNumber, reasonNumber, verdictNumber}
+use Rattle.promises.specs.Engines.{Engine}
+
+pub record Demand1 (e : Engine) : Type 0 where
+  pub forwardScan : (o k : ℕ) (ws : List ℕ) (x budget : ℕ) (m : List ℕ)
+      → Obeys scanNumber (forwardTable o k ws x budget m) (forwardDone o k ws x budget m) (e .forwardScan o k ws x budget m)
+  pub kindScan : (o k : ℕ) (ws : List ℕ) (y budget : ℕ) (m : List ℕ)
+      → Obeys scanNumber (kindTable o k ws y budget m) (kindDone o k ws y budget m) (e .kindScan o k ws y budget m)
+  pub question : (o k : ℕ) (ws : List ℕ) (x y : ℕ) (m : List ℕ)
+      → Obeys questionNumber (questionTable o k ws x y m) (questionDone o k ws x y m) (e .question o k ws x y m)
+  pub clashTest : (o k : ℕ) (ws m : List ℕ) → Obeys clashNumber (clashTable o k ws m) (clashDone o k ws m) (e .clashTest o k ws m)
+  pub completion : (o k : ℕ) (ws m l : List ℕ)
+      → Obeys completionNumber (completionTable o k ws m l) (completionDone o k ws m l) (e .completion o k ws m l)
+  pub reason : (o k : ℕ) (ws : List ℕ) (x y sign : ℕ) (d l : List ℕ)
+      → Obeys reasonNumber (reasonTable o k ws x y sign d l) (reasonDone o k ws x y sign d l) (e .reason o k ws x y sign d l)
+  pub reasonCheck : (o k : ℕ) (ws : List ℕ) (x y sign : ℕ) (l : List ℕ)
+      → Obeys verdictNumber (checkTable o k ws x y sign l) (checkDone o k ws x y sign l) (e .reasonCheck o k ws x y sign l)

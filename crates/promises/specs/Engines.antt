@@ -1,0 +1,76 @@
+-- An engine: what it answers and leaves for each call. The promises are stated of any engine; ours is the one that the operations' statements describe.
+use Prim.Native.Nat.{ℕ}
+use mathlib.Core.List.{List}
+use Rattle.machine.specs.Scanning.{Outcome, forwardScanned, kindScanned}
+use Rattle.answers.specs.Table.{Question, questioned, Clash, clashedBy}
+use Rattle.completion.specs.Table.{Completion, completedBy}
+use Rattle.reasons.specs.Table.{Reason, reasoned}
+use Rattle.checks.specs.Table.{verdict}
+use Rattle.checks.specs.declared.Verdict.{Verdict}
+
+-- The seven operations, each over objects, kinds, words, what is asked, and the lent buffers as they are at entry.
+pub record Engine : Type 0 where
+  pub forwardScan : ℕ → ℕ → List ℕ → ℕ → ℕ → List ℕ → Outcome
+  pub kindScan : ℕ → ℕ → List ℕ → ℕ → ℕ → List ℕ → Outcome
+  pub question : ℕ → ℕ → List ℕ → ℕ → ℕ → List ℕ → Question
+  pub clashTest : ℕ → ℕ → List ℕ → List ℕ → Clash
+  pub completion : ℕ → ℕ → List ℕ → List ℕ → List ℕ → Completion
+  pub reason : ℕ → ℕ → List ℕ → ℕ → ℕ → ℕ → List ℕ → List ℕ → Reason
+  pub reasonCheck : ℕ → ℕ → List ℕ → ℕ → ℕ → ℕ → List ℕ → Verdict
+
+-- The engine of the operations' own statements.
+abbrev pub ours : Engine
+ours = record {
+  forwardScan = forwardScanned;
+  kindScan = kindScanned;
+  question = questioned;
+  clashTest = clashedBy;
+  completion = completedBy;
+  reason = reasoned;
+  reasonCheck = verdict;
+}
+
+-- Our engine with another forward scan, kind scan, question or completion.
+abbrev pub withForwardScan : (ℕ → ℕ → List ℕ → ℕ → ℕ → List ℕ → Outcome) → Engine
+withForwardScan f = record {
+  forwardScan = f;
+  kindScan = ours .kindScan;
+  question = ours .question;
+  clashTest = ours .clashTest;
+  completion = ours .completion;
+  reason = ours .reason;
+  reasonCheck = ours .reasonCheck;
+}
+
+abbrev pub withKindScan : (ℕ → ℕ → List ℕ → ℕ → ℕ → List ℕ → Outcome) → Engine
+withKindScan f = record {
+  forwardScan = ours .forwardScan;
+  kindScan = f;
+  question = ours .question;
+  clashTest = ours .clashTest;
+  completion = ours .completion;
+  reason = ours .reason;
+  reasonCheck = ours .reasonCheck;
+}
+
+abbrev pub withQuestion : (ℕ → ℕ → List ℕ → ℕ → ℕ → List ℕ → Question) → Engine
+withQuestion f = record {
+  forwardScan = ours .forwardScan;
+  kindScan = ours .kindScan;
+  question = f;
+  clashTest = ours .clashTest;
+  completion = ours .completion;
+  reason = ours .reason;
+  reasonCheck = ours .reasonCheck;
+}
+
+abbrev pub withCompletion : (ℕ → ℕ → List ℕ → List ℕ → List ℕ → Completion) → Engine
+withCompletion f = record {
+  forwardScan = ours .forwardScan;
+  kindScan = ours .kindScan;
+  question = ours .question;
+  clashTest = ours .clashTest;
+  completion = f;
+  reason = ours .reason;
+  reasonCheck = ours .reasonCheck;
+}

@@ -1,0 +1,46 @@
+-- The three earlier versions that failed, as engines. Each differs from ours only in its fault.
+use Prim.Native.Nat.{_+_, _*_}
+use mathlib.Core.Bool.{cond, _||_}
+use mathlib.Core.List.{List, [], _∷_, _++_}
+use lib.Dec.{ltb, leb}
+use lib.ListN.{length, drop}
+use Rattle.theory.specs.Marks.{T, F, toHead, forwardStart}
+use Rattle.theory.specs.Scans.{rounds, forwardScan}
+use Rattle.theory.specs.Downscan.{downscan}
+use Rattle.theory.specs.declared.Command.{Command}
+use Rattle.words.specs.declared.Refusal.the-variants.{BadQuestion, ShortBuffer}
+use Rattle.machine.specs.Scanning.{outcome, ran}
+use Rattle.machine.specs.declared.Scanned.the-variants as scanned
+use Rattle.answers.specs.Table.{question, readAt}
+use Rattle.answers.specs.declared.Answer.the-variants.{Yes}
+use Rattle.answers.specs.declared.Asked.the-variants as asked
+use Rattle.promises.specs.Tables.{line, call}
+use Rattle.promises.specs.Calls.{netLines, questionTable, questionDone, noClash}
+use Rattle.promises.specs.Engines.{Engine, withKindScan, withQuestion}
+
+-- Only the commands that follow an arrow forward, the first and the third: none goes back from a head to a tail.
+abbrev pub forwardOnly : List Command
+forwardOnly = toHead 0 T T ∷ toHead 1 T F ∷ []
+
+abbrev pub neverBack : Engine
+neverBack =
+    withQuestion (λ o k ws x y m. call (questionTable o k ws x y m) (readAt y (rounds forwardOnly ws 0 (2 * (o + k)) (forwardStart (o + k) x)) (drop (o + k) m)))
+
+-- Classical reasoning: once any object clashes, yes to every question.
+abbrev pub classical : Engine
+classical =
+    withQuestion (λ o k ws x y m.
+    call (questionTable o k ws x y m)
+    (cond (noClash o k ws) (questionDone o k ws x y m)
+    (question (asked.Done Yes (forwardScan (o + k) ws x (2 * (o + k)) .count)) (forwardScan (o + k) ws x (2 * (o + k)) .marks ++ drop (o + k) m))))
+
+-- The report's backward search in place of the kind scan: it never climbs above the kind that it starts from.
+abbrev pub neverUp : Engine
+neverUp =
+    withKindScan (λ o k ws y budget m.
+    call
+    (netLines (λ r. outcome (scanned.Refused r) m) o k ws
+    (line 4 (leb (o + k) y || ltb y o) (outcome (scanned.Refused BadQuestion) m)
+    ∷ line 5 (ltb (length m) (o + k)) (outcome (scanned.Refused ShortBuffer) m)
+    ∷ []))
+    (ran (downscan (o + k) ws y budget) (drop (o + k) m)))

@@ -1,0 +1,101 @@
+-- The bench readings marked P, as one table: what the statements give, and what the paper says, each written as a list of numbers.
+use Prim.Native.Nat.{ℕ, _/_, _%_}
+use mathlib.Core.Bool.{Bool, true, _&&_}
+use mathlib.Core.List.{List, [], _∷_, _++_, map}
+use lib.ListN.{length, replicate}
+use Rattle.theory.specs.Scans.{same}
+use Rattle.theory.specs.Downscan.{downscan}
+use Rattle.words.specs.Table.{Row}
+use Rattle.machine.specs.Scanning.{Outcome, forwardScanned, kindScanned, scanRow}
+use Rattle.answers.specs.Table.{Question, questioned, askedRow, Clash, clashedBy, clashedRow}
+use Rattle.completion.specs.Table.{Completion, completedBy, completedRow}
+use Rattle.reasons.specs.Table.{Reason, reasoned, reasonedRow}
+
+-- One reading.
+pub record Entry : Type 0 where
+  pub gives : List ℕ
+  pub paper : List ℕ
+
+abbrev pub entry : List ℕ → List ℕ → Entry
+entry g p = record { gives = g; paper = p }
+
+-- ── an outcome as numbers: number and two values, then each buffer, its length in front ──
+
+abbrev pub values : Row → List ℕ → List ℕ
+values r rest = r .number ∷ r .first ∷ r .second ∷ rest
+
+abbrev pub buffer : List ℕ → List ℕ → List ℕ
+buffer l rest = length l ∷ (l ++ rest)
+
+abbrev pub scanned : Outcome → List ℕ
+scanned r = values (scanRow (r .answer)) (buffer (r .marks) [])
+
+abbrev pub answered : Question → List ℕ
+answered r = values (askedRow (r .answer)) (buffer (r .marks) [])
+
+abbrev pub clashes : Clash → List ℕ
+clashes r = values (clashedRow (r .answer)) (buffer (r .marks) [])
+
+abbrev pub completes : Completion → List ℕ
+completes r = values (completedRow (r .answer)) (buffer (r .marks) (buffer (r .list) []))
+
+abbrev pub reasons : Reason → List ℕ
+reasons r = values (reasonedRow (r .answer)) (buffer (r .scratch) (buffer (r .list) []))
+
+-- At which nodes F stands.
+abbrev pub noes : List ℕ → List ℕ
+noes m = map (λ (b : ℕ). b / 2 % 2) m
+
+-- ── the readings ──
+
+-- Net M: two traces and four kinds.
+abbrev pub M : List ℕ
+M = 4 ∷ 2058 ∷ 4103 ∷ 8198 ∷ 10248 ∷ []
+
+-- Buffers hold 255 in every place beforehand, and one place more than is needed where the paper does not say how many: that place is kept.
+abbrev pub lent : ℕ → List ℕ
+lent n = replicate n 255
+
+-- The readings of forward scans, in the order of the paper.
+abbrev pub forwardReadings : List Entry
+forwardReadings =
+    entry (scanned (forwardScanned 2 4 M 0 5 (lent 7))) (0 ∷ 5 ∷ 0 ∷ 7 ∷ 1 ∷ 2 ∷ 1 ∷ 2 ∷ 2 ∷ 2 ∷ 255 ∷ [])
+    ∷ entry (scanned (forwardScanned 2 4 M 0 4 (lent 7))) (6 ∷ 4 ∷ 0 ∷ 7 ∷ 1 ∷ 2 ∷ 1 ∷ 2 ∷ 2 ∷ 2 ∷ 255 ∷ [])
+    ∷ entry (scanned (forwardScanned 2 4 M 0 1 (lent 7))) (6 ∷ 1 ∷ 0 ∷ 7 ∷ 1 ∷ 0 ∷ 1 ∷ 2 ∷ 0 ∷ 0 ∷ 255 ∷ [])
+    ∷ entry (scanned (forwardScanned 1 2 (2 ∷ 3 ∷ []) 0 6 (lent 4))) (0 ∷ 2 ∷ 0 ∷ 4 ∷ 3 ∷ 3 ∷ 0 ∷ 255 ∷ [])
+    ∷ entry (answered (questioned 1 2 (2 ∷ 3 ∷ []) 0 2 (lent 4))) (0 ∷ 0 ∷ 2 ∷ 4 ∷ 3 ∷ 3 ∷ 0 ∷ 255 ∷ [])
+    ∷ entry (scanned (forwardScanned 0 3 (3 ∷ 2053 ∷ []) 0 6 (lent 4))) (0 ∷ 2 ∷ 0 ∷ 4 ∷ 1 ∷ 2 ∷ 0 ∷ 255 ∷ [])
+    ∷ entry (scanned (forwardScanned 0 1 (1 ∷ []) 0 2 (lent 2))) (0 ∷ 2 ∷ 0 ∷ 2 ∷ 3 ∷ 255 ∷ [])
+    ∷ entry (scanned (forwardScanned 0 1 [] 0 2 (lent 2))) (0 ∷ 1 ∷ 0 ∷ 2 ∷ 1 ∷ 255 ∷ [])
+    ∷ []
+
+-- Net M completed.
+abbrev pub completedM : List ℕ
+completedM =
+    4 ∷ 7 ∷ 9 ∷ 11 ∷ 2053 ∷ 2054 ∷ 2056 ∷ 2058 ∷ 4100 ∷ 4103 ∷ 4105 ∷ 4107 ∷ 6149 ∷ 6150 ∷ 8197 ∷ 8198 ∷ 8200 ∷ 10245 ∷ 10246 ∷ 10248 ∷ 10250 ∷ []
+
+-- The scratch of the reason for 0 ↛ 5 in net M.
+abbrev pub scratchM : List ℕ
+scratchM = 4 ∷ 65535 ∷ 3 ∷ 65535 ∷ 65535 ∷ 65535 ∷ 65535 ∷ 65535 ∷ 65535 ∷ 2 ∷ 1 ∷ 0 ∷ []
+
+-- The other readings, in the order of the paper.
+abbrev pub otherReadings : List Entry
+otherReadings =
+    entry (scanned (kindScanned 2 4 M 4 17 (lent 7))) (0 ∷ 3 ∷ 0 ∷ 7 ∷ 2 ∷ 1 ∷ 2 ∷ 4 ∷ 5 ∷ 1 ∷ 255 ∷ [])
+    ∷ entry (noes (downscan 6 M 4 17 .marks)) (0 ∷ 0 ∷ 0 ∷ 0 ∷ 0 ∷ 0 ∷ [])
+    ∷ entry (reasons (reasoned 2 4 M 0 5 1 (lent 12) (lent 7))) (0 ∷ 7 ∷ 0 ∷ 12 ∷ (scratchM ++ (7 ∷ 2 ∷ 3 ∷ 0 ∷ 2 ∷ 3 ∷ 4 ∷ 5 ∷ [])))
+    ∷ entry (reasons (reasoned 2 4 M 0 5 1 (lent 12) (lent 6))) (8 ∷ 7 ∷ 0 ∷ 12 ∷ (scratchM ++ (6 ∷ 255 ∷ 255 ∷ 255 ∷ 255 ∷ 255 ∷ 255 ∷ [])))
+    ∷ entry (completes (completedBy 2 4 M (lent 7) (lent 22))) (0 ∷ 21 ∷ 0 ∷ 7 ∷ 0 ∷ 0 ∷ 0 ∷ 0 ∷ 0 ∷ 0 ∷ 255 ∷ 22 ∷ (completedM ++ (255 ∷ [])))
+    ∷ entry (clashes (clashedBy 1 2 (2 ∷ 3 ∷ []) (lent 4))) (0 ∷ 0 ∷ 1 ∷ 4 ∷ 0 ∷ 0 ∷ 0 ∷ 255 ∷ [])
+    ∷ entry (completes (completedBy 0 1 (1 ∷ []) (lent 2) (lent 3))) (0 ∷ 2 ∷ 0 ∷ 2 ∷ 0 ∷ 255 ∷ 3 ∷ 0 ∷ 1 ∷ 255 ∷ [])
+    ∷ entry (completes (completedBy 0 1 [] (lent 2) (lent 2))) (0 ∷ 1 ∷ 0 ∷ 2 ∷ 0 ∷ 255 ∷ 2 ∷ 0 ∷ 255 ∷ [])
+    ∷ []
+
+-- All of them.
+abbrev pub readings : List Entry
+readings = otherReadings ++ forwardReadings
+
+-- Every entry agrees with the paper.
+unfoldable pub allAgree : List Entry → Bool
+allAgree [] = true
+allAgree (e ∷ es) = same (e .gives) (e .paper) && allAgree es

@@ -1,0 +1,68 @@
+-- The number table of one call: its lines in the paper's order, and what it means that a number is given.
+use Prim.Native.Nat.{ℕ}
+use mathlib.Core.Path.{_≡_}
+use mathlib.Core.Bool.{Bool, true, false, cond, _&&_, not}
+use mathlib.Core.List.{List, [], _∷_}
+use mathlib.Core.Logic.{_↔_}
+use lib.Dec.{eqb}
+
+-- A line: its number, whether its condition holds of this call, and what it gives and leaves.
+pub record Line (A : Type 0) : Type 0 where
+  pub number : ℕ
+  pub applies : Bool
+  pub outcome : A
+
+abbrev pub line : {A : Type 0} → ℕ → Bool → A → Line A
+line n t r = record { number = n; applies = t; outcome = r }
+
+-- The call: the first line that applies decides; where none does, it is done.
+abbrev pub call : {A : Type 0} → List (Line A) → A → A
+call [] done = done
+call (l ∷ ls) done = cond (l .applies) (l .outcome) (call ls done)
+
+-- No line applies.
+abbrev pub NoLine : {A : Type 0} → List (Line A) → Type 0
+NoLine [] = Unit {0}
+NoLine (l ∷ ls) = (l .applies ≡ false) × NoLine ls
+
+-- The one type or the other.
+abbrev pub choose : Bool → Type 0 → Type 0 → Type 0
+choose true P Q = P
+choose false P Q = Q
+
+-- Number n is due: its line applies and none before it does; 0 is due where no line applies.
+abbrev pub Due : {A : Type 0} → ℕ → List (Line A) → Type 0
+Due n [] = n ≡ 0
+Due n (l ∷ ls) = choose (eqb (l .number) n) (l .applies ≡ true) ((l .applies ≡ false) × Due n ls)
+
+-- What line n gives and leaves; for a number of no line, what a call that is done does.
+abbrev pub outcomeOf : {A : Type 0} → ℕ → List (Line A) → A → A
+outcomeOf n [] done = done
+outcomeOf n (l ∷ ls) done = cond (eqb (l .number) n) (l .outcome) (outcomeOf n ls done)
+
+-- A number stands among the lines' numbers.
+abbrev pub among : {A : Type 0} → ℕ → List (Line A) → Bool
+among n [] = false
+among n (l ∷ ls) = cond (eqb (l .number) n) true (among n ls)
+
+-- No two lines have one number.
+abbrev pub distinct : {A : Type 0} → List (Line A) → Bool
+distinct [] = true
+distinct (l ∷ ls) = not (among (l .number) ls) && distinct ls
+
+-- The outcome of each line has the line's own number, where `number` reads the number of an outcome.
+abbrev pub Numbered : {A : Type 0} → (A → ℕ) → List (Line A) → Type 0
+Numbered number [] = Unit {0}
+Numbered number (l ∷ ls) = (number (l .outcome) ≡ l .number) × Numbered number ls
+
+-- A table as it should be: numbered, no number twice, none of them 0, and 0 is what a call has to which no line applies.
+pub record Table {A : Type 0} (number : A → ℕ) (ls : List (Line A)) (done : A) : Type 0 where
+  pub numbered : Numbered number ls
+  pub once : distinct ls ≡ true
+  pub nonzero : among 0 ls ≡ false
+  pub zero : NoLine ls → number done ≡ 0
+
+-- An outcome obeys a table: its number is n exactly when n is due, and then all of it, every buffer included, is what line n says.
+pub record Obeys {A : Type 0} (number : A → ℕ) (ls : List (Line A)) (done r : A) : Type 0 where
+  pub exactly : (n : ℕ) → (number r ≡ n) ↔ Due n ls
+  pub leaves : (n : ℕ) → Due n ls → r ≡ outcomeOf n ls done

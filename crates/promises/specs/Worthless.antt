@@ -1,0 +1,63 @@
+-- Four worthless engines. Each differs from ours only in what makes it worthless.
+use Prim.Native.Nat.{ℕ, _+_}
+use mathlib.Core.List.{List, [], _∷_, _++_}
+use lib.Dec.{ltb}
+use lib.ListN.{length, drop}
+use Rattle.theory.specs.Marks.{round, forward, forwardStart}
+use Rattle.words.specs.declared.Refusal.{Refusal}
+use Rattle.machine.specs.Scanning.{Outcome, outcome}
+use Rattle.machine.specs.declared.Scanned.the-variants as scanned
+use Rattle.answers.specs.Table.{question, questioned, clash, cleared}
+use Rattle.answers.specs.declared.Answer.the-variants.{None}
+use Rattle.answers.specs.declared.Asked.{Asked}
+use Rattle.answers.specs.declared.Asked.the-variants as asked
+use Rattle.answers.specs.declared.Clashed.the-variants as clashed
+use Rattle.completion.specs.Table.{Completion, completion, fill}
+use Rattle.completion.specs.declared.Completed.the-variants as completed
+use Rattle.words.specs.declared.Refusal.the-variants.{ShortBuffer}
+use Rattle.reasons.specs.Table.{reason}
+use Rattle.reasons.specs.declared.Reasoned.the-variants as reasonedAs
+use Rattle.checks.specs.declared.Verdict.the-variants as verdictAs
+use Rattle.promises.specs.Tables.{line, call}
+use Rattle.promises.specs.Calls.{netLines, forwardTable}
+use Rattle.promises.specs.Engines.{Engine, withForwardScan, withQuestion, withCompletion}
+
+-- One that refuses all calls, with the refusal r.
+abbrev pub refuser : Refusal → Engine
+refuser r = record {
+  forwardScan = λ o k ws x budget m. outcome (scanned.Refused r) m;
+  kindScan = λ o k ws y budget m. outcome (scanned.Refused r) m;
+  question = λ o k ws x y m. question (asked.Refused r) m;
+  clashTest = λ o k ws m. clash (clashed.Refused r) m;
+  completion = λ o k ws m l. completion (completed.Refused r) m l;
+  reason = λ o k ws x y sign d l. reason (reasonedAs.Refused r) d l;
+  reasonCheck = λ o k ws x y sign l. verdictAs.Refused r;
+}
+
+-- An answer turned into none.
+abbrev pub silenced : Asked → Asked
+silenced (asked.Done a count) = asked.Done None count
+silenced (asked.Refused r) = asked.Refused r
+
+-- One that answers none to every question, with the right rounds, marks and refusals.
+abbrev pub denier : Engine
+denier = withQuestion (λ o k ws x y m. question (silenced (questioned o k ws x y m .answer)) (questioned o k ws x y m .marks))
+
+-- The net as its own completion, with the right refusals.
+abbrev pub ownCompletion : ℕ → ℕ → List ℕ → List ℕ → List ℕ → Completion
+ownCompletion o k ws m l =
+    call (netLines (λ r. completion (completed.Refused r) m l) o k ws (line 5 (ltb (length m) (o + k)) (completion (completed.Refused ShortBuffer) m l) ∷ []))
+    (fill ws (cleared (o + k) m) l)
+
+-- One that returns it.
+abbrev pub copier : Engine
+copier = withCompletion ownCompletion
+
+-- A forward scan that runs the first round and reports an invented count, with the right refusals.
+abbrev pub oneRound : (ℕ → ℕ → List ℕ → ℕ → ℕ) → ℕ → ℕ → List ℕ → ℕ → ℕ → List ℕ → Outcome
+oneRound invented o k ws x budget m =
+    call (forwardTable o k ws x budget m) (outcome (scanned.Done (invented o k ws x)) (round forward ws (forwardStart (o + k) x) ++ drop (o + k) m))
+
+-- One that does so.
+abbrev pub inventor : (ℕ → ℕ → List ℕ → ℕ → ℕ) → Engine
+inventor invented = withForwardScan (oneRound invented)

@@ -1,0 +1,15 @@
+-- Equal answers have one row.
+use mathlib.Core.Path.{_≡_, sym, ap, subst, _∙_}
+use Rattle.words.specs.Table.{Row}
+use Rattle.rows.specs.Given.{given, Fits}
+use Rattle.rows.specs.declared.Given.{Given}
+
+-- Rows are given by f, and the answer a is v.
+module _ {A : Type 0} (f : A → Row) {a v : A} (e : a ≡ v) where
+  -- A struct that holds v's row holds a's.
+  pub carry-given : {g : Given} → given g ≡ f v → given g ≡ f a
+  carry-given h = h ∙ sym (ap f e)
+
+  -- Where a's values fit, v's do.
+  pub carry-fits : Fits (f a) → Fits (f v)
+  carry-fits = subst (λ (u : A). Fits (f u)) e

@@ -1,0 +1,3 @@
+pub mod Carrying
+pub mod Fitting
+pub mod Operations

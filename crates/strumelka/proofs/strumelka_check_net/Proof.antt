@@ -1,0 +1,22 @@
+-- The answer of the check of a net as a row.
+use mathlib.Core.Path.{sym}
+use borrow.Author.Needs.{needs}
+use Rattle.words.specs.Table.{checkedRow}
+use Rattle.rows.proofs.Carrying.{carry-given, carry-fits}
+use Rattle.rows.proofs.Fitting.{checked-fits}
+use Rattle.strumelka.proofs.strumelka_check_net.Statement.{statement}
+use Rattle.strumelka.proofs.strumelka_check_net.Tie as tie
+
+check-net-requires : tie.Need-check-net-requires
+check-net-requires c κs = search needs
+
+checked-given-requires : tie.Need-checked-given-requires
+checked-given-requires c κs =
+    let a = c .before .before .args in
+    carry-fits checkedRow (sym (c .check-net .ensures)) (checked-fits (a .o) (a .k) (a .words .now))
+
+returns : tie.Need-returns
+returns c = carry-given checkedRow (sym (c .before .check-net .ensures)) (c .checked-given .ensures)
+
+pub strumelka-check-net-spec : {M : Type 1} → statement M
+strumelka-check-net-spec = tie.close (tie.spec check-net-requires checked-given-requires returns)

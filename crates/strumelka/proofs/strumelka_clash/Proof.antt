@@ -1,0 +1,29 @@
+-- The answer of the clash test as a row, and the marks that it leaves.
+use mathlib.Core.Path.{sym, ap}
+use borrow.Author.Needs.{needs}
+use Rattle.answers.specs.Table.{Clash}
+use Rattle.rows.proofs.Carrying.{carry-given, carry-fits}
+use Rattle.rows.proofs.Operations.{clashGives, clash-fits}
+use Rattle.strumelka.proofs.strumelka_clash.Statement.{statement}
+use Rattle.strumelka.proofs.strumelka_clash.Tie as tie
+
+find-clash-requires : tie.Need-find-clash-requires
+find-clash-requires c κs = search needs
+
+clashed-given-requires : tie.Need-clashed-given-requires
+clashed-given-requires c κs =
+    let find = c .before .before in
+    let a = find .before .before .before .before .args in
+    carry-fits clashGives (sym (find .find-clash .ensures)) (clash-fits (a .o) (a .k) (a .words .now) (a .marks .now))
+
+same-length : tie.Need-same-length
+same-length c = search needs
+
+returns : tie.Need-returns
+returns c =
+    let e = c .before .before .before .find-clash .ensures in
+    (carry-given clashGives (sym e) (c .clashed-given .ensures), ap (λ (t : Clash). t .marks) e)
+
+pub strumelka-clash-spec : {M : Type 1} → statement M
+strumelka-clash-spec =
+    tie.close (tie.spec find-clash-requires clashed-given-requires same-length returns)

@@ -1,0 +1,33 @@
+-- The answer of the completion as a row, and the marks and the list that it leaves.
+use mathlib.Core.Path.{sym, ap}
+use borrow.Author.Needs.{needs}
+use Rattle.completion.specs.Table.{Completion}
+use Rattle.rows.proofs.Carrying.{carry-given, carry-fits}
+use Rattle.rows.proofs.Operations.{completionGives, completion-fits}
+use Rattle.strumelka.proofs.strumelka_completion.Statement.{statement}
+use Rattle.strumelka.proofs.strumelka_completion.Tie as tie
+
+complete-net-requires : tie.Need-complete-net-requires
+complete-net-requires c κs = search needs
+
+completed-given-requires : tie.Need-completed-given-requires
+completed-given-requires c κs =
+    let complete = c .before .before .before .before in
+    let a = complete .before .before .before .before .before .before .args in
+    carry-fits completionGives (sym (complete .complete-net .ensures)) (completion-fits (a .o) (a .k) (a .words .now) (a .marks .now) (a .list .now))
+
+same-length : tie.Need-same-length
+same-length c = search needs
+
+same-length-2 : tie.Need-same-length-2
+same-length-2 c = search needs
+
+returns : tie.Need-returns
+returns c =
+    let e = c .before .before .before .before .before .complete-net .ensures in
+    (carry-given completionGives (sym e) (c .completed-given .ensures), ap (λ (s : Completion). s .marks) e, ap (λ (s : Completion). s .list) e)
+
+pub strumelka-completion-spec : {M : Type 1} → statement M
+strumelka-completion-spec =
+    tie.close
+    (tie.spec complete-net-requires completed-given-requires same-length same-length-2 returns)

@@ -1,0 +1,23 @@
+-- The answer of the check of a reason as a row.
+use mathlib.Core.Path.{sym}
+use borrow.Author.Needs.{needs}
+use Rattle.checks.specs.Table.{verdictRow}
+use Rattle.rows.proofs.Carrying.{carry-given, carry-fits}
+use Rattle.rows.proofs.Operations.{verdict-fits}
+use Rattle.strumelka.proofs.strumelka_reason_check.Statement.{statement}
+use Rattle.strumelka.proofs.strumelka_reason_check.Tie as tie
+
+check-reason-requires : tie.Need-check-reason-requires
+check-reason-requires c κs = search needs
+
+verdict-given-requires : tie.Need-verdict-given-requires
+verdict-given-requires c κs =
+    let a = c .before .before .before .args in
+    carry-fits verdictRow (sym (c .check-reason .ensures)) (verdict-fits (a .o) (a .k) (a .words .now) (a .x) (a .y) (a .sign) (a .list .now))
+
+returns : tie.Need-returns
+returns c = carry-given verdictRow (sym (c .before .check-reason .ensures)) (c .verdict-given .ensures)
+
+pub strumelka-reason-check-spec : {M : Type 1} → statement M
+strumelka-reason-check-spec =
+    tie.close (tie.spec check-reason-requires verdict-given-requires returns)

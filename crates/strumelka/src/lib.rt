@@ -1,0 +1,141 @@
+// What a C or a Rust program links: each operation, its answer given as a row of the number table.
+ghost use mathlib.Core.Path.{_≡_};
+ghost use Rattle.words.specs.Table.{checkNet, checkedRow};
+ghost use Rattle.machine.specs.Scanning.{forwardScanned, kindScanned, scanRow};
+ghost use Rattle.answers.specs.Table.{questioned, askedRow, clashedBy, clashedRow};
+ghost use Rattle.completion.specs.Table.{completedBy, completedRow};
+ghost use Rattle.reasons.specs.Table.{reasoned, reasonedRow};
+ghost use Rattle.checks.specs.Table.{verdict, verdictRow};
+ghost use Rattle.rows.specs.Given.{given};
+use answers::ask_question;
+use answers::find_clash;
+use checks::check_reason;
+use completion::complete_net;
+use machine::forward_scan;
+use machine::kind_scan;
+use reasons::find_reason;
+use rows::Given;
+use rows::asked_given;
+use rows::checked_given;
+use rows::clashed_given;
+use rows::completed_given;
+use rows::reasoned_given;
+use rows::scanned_given;
+use rows::verdict_given;
+use words::check_net;
+
+// The check of a net.
+#[no_mangle]
+pub extern "C" fn strumelka_check_net(o: u32, k: u32, words: &[u32]) -> Given
+    ensures { λ r. ⌜ given r ≡ checkedRow (checkNet o k (now (words .entry))) ⌝ }
+{
+    checked_given(check_net(o, k, words))
+}
+
+// The forward scan from node `start`, within `budget` rounds.
+#[no_mangle]
+pub extern "C" fn strumelka_forward_scan(
+    o: u32,
+    k: u32,
+    words: &[u32],
+    start: u32,
+    budget: u32,
+    marks: &mut [u8],
+) -> Given
+    ensures { λ r. ⌜ (given r ≡ scanRow (forwardScanned o k (now (words .entry)) start budget (now (marks .entry)) .answer))
+        × (now (marks .exit) ≡ forwardScanned o k (now (words .entry)) start budget (now (marks .entry)) .marks) ⌝ }
+{
+    scanned_given(forward_scan(o, k, words, start, budget, marks))
+}
+
+// The kind scan from kind `start`, within `budget` rounds.
+#[no_mangle]
+pub extern "C" fn strumelka_kind_scan(
+    o: u32,
+    k: u32,
+    words: &[u32],
+    start: u32,
+    budget: u32,
+    marks: &mut [u8],
+) -> Given
+    ensures { λ r. ⌜ (given r ≡ scanRow (kindScanned o k (now (words .entry)) start budget (now (marks .entry)) .answer))
+        × (now (marks .exit) ≡ kindScanned o k (now (words .entry)) start budget (now (marks .entry)) .marks) ⌝ }
+{
+    scanned_given(kind_scan(o, k, words, start, budget, marks))
+}
+
+// The question whether `x` is `y`.
+#[no_mangle]
+pub extern "C" fn strumelka_question(
+    o: u32,
+    k: u32,
+    words: &[u32],
+    x: u32,
+    y: u32,
+    marks: &mut [u8],
+) -> Given
+    ensures { λ r. ⌜ (given r ≡ askedRow (questioned o k (now (words .entry)) x y (now (marks .entry)) .answer))
+        × (now (marks .exit) ≡ questioned o k (now (words .entry)) x y (now (marks .entry)) .marks) ⌝ }
+{
+    asked_given(ask_question(o, k, words, x, y, marks))
+}
+
+// The completion, with room for marks and for the list.
+#[no_mangle]
+pub extern "C" fn strumelka_completion(
+    o: u32,
+    k: u32,
+    words: &[u32],
+    marks: &mut [u8],
+    list: &mut [u32],
+) -> Given
+    ensures { λ r. ⌜ (given r ≡ completedRow (completedBy o k (now (words .entry)) (now (marks .entry)) (now (list .entry)) .answer))
+        × (now (marks .exit) ≡ completedBy o k (now (words .entry)) (now (marks .entry)) (now (list .entry)) .marks)
+        × (now (list .exit) ≡ completedBy o k (now (words .entry)) (now (marks .entry)) (now (list .entry)) .list) ⌝ }
+{
+    completed_given(complete_net(o, k, words, marks, list))
+}
+
+// The clash test.
+#[no_mangle]
+pub extern "C" fn strumelka_clash(o: u32, k: u32, words: &[u32], marks: &mut [u8]) -> Given
+    ensures { λ r. ⌜ (given r ≡ clashedRow (clashedBy o k (now (words .entry)) (now (marks .entry)) .answer))
+        × (now (marks .exit) ≡ clashedBy o k (now (words .entry)) (now (marks .entry)) .marks) ⌝ }
+{
+    clashed_given(find_clash(o, k, words, marks))
+}
+
+// The shortest reason for x → y (`sign` 0) or x ↛ y (`sign` 1), with room for distances and for the list.
+#[no_mangle]
+pub extern "C" fn strumelka_reason(
+    o: u32,
+    k: u32,
+    words: &[u32],
+    x: u32,
+    y: u32,
+    sign: u32,
+    scratch: &mut [u16],
+    list: &mut [u16],
+) -> Given
+    ensures { λ r. ⌜ (given r ≡ reasonedRow (reasoned o k (now (words .entry)) x y sign (now (scratch .entry)) (now (list .entry)) .answer))
+        × (now (scratch .exit) ≡ reasoned o k (now (words .entry)) x y sign (now (scratch .entry)) (now (list .entry)) .scratch)
+        × (now (list .exit) ≡ reasoned o k (now (words .entry)) x y sign (now (scratch .entry)) (now (list .entry)) .list) ⌝ }
+{
+    reasoned_given(find_reason(o, k, words, x, y, sign, scratch, list))
+}
+
+// The check of a reason for x → y (`sign` 0) or x ↛ y (`sign` 1).
+#[no_mangle]
+pub extern "C" fn strumelka_reason_check(
+    o: u32,
+    k: u32,
+    words: &[u32],
+    x: u32,
+    y: u32,
+    sign: u32,
+    list: &[u16],
+) -> Given
+    ensures { λ r. ⌜ given r ≡ verdictRow (verdict o k (now (words .entry)) x y sign (now (list .entry))) ⌝ }
+{
+    verdict_given(check_reason(o, k, words, x, y, sign, list))
+}
