@@ -1,12 +1,12 @@
 pub mod Tables
 pub mod Calls
 pub mod Numbers
-pub mod Clashing
-pub mod Readings
 pub mod Engines
 pub mod Demand1
+pub mod Clashing
 pub mod Demand2
+pub mod Reasoning
 pub mod Demand3
+pub mod Readings
 pub mod Worthless
 pub mod Failed
-pub mod Reasoning

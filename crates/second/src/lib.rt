@@ -212,3 +212,21 @@ pub fn ask_text(file: &[u8], text: &mut [u8]) -> usize {
     close(node(o), node_count(o, k), words, &mut support);
     question_lines(file, o, k, words, &support, text)
 }
+
+// Rows 1 to 3 alone; the number of nodes where none of them applies.
+pub fn check_net(o: u32, k: u32, words: &[u32]) -> Outcome {
+    let checked = net_check(o, k, words);
+    if checked.number != 0 {
+        return checked;
+    }
+    given(0, narrow(node_count(o, k)), 0)
+}
+
+// The place of a malformed file's 9, or where the questions of a well-formed one start.
+pub fn read_file(file: &[u8]) -> Outcome {
+    let place = wrong_place(file);
+    if place < 4 {
+        return given(9, place, 0);
+    }
+    given(0, number_at(file, 4), 0)
+}

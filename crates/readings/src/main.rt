@@ -1,0 +1,44 @@
+// Runs the cases of standard input on the proved operations and on the second engine, and says of each whether they agree.
+
+mod places; // places.rt: reading and writing at any place of a slice
+mod widths; // widths.rt: numbers as bytes and as u16, and back
+mod feed; // feed.rt: standard input, line by line
+mod fields; // fields.rt: numbers and lists of a line
+mod cases; // cases.rt: the operations and the fields of each
+mod rows; // rows.rt: number and values of the proved operations' answers
+mod proved; // proved.rt: the proved operations
+mod other; // other.rt: the second engine's operations
+mod engines; // engines.rt: one case on one engine
+mod show; // show.rt: what is printed
+mod tally; // tally.rt: how many cases were run, and how they ended
+mod compare; // compare.rt: one line on both engines
+
+use compare::run_line;
+use feed::Feed;
+use feed::take_line;
+use tally::Tally;
+use tally::empty_tally;
+use tally::show_tally;
+
+// Runs every line of the input.
+fn run_lines(chunk: &mut [u8], room: &mut [u8]) -> Tally {
+    let mut tally = empty_tally();
+    let mut feed = Feed { at: 0, end: 0 };
+    let mut turns: u64 = u64::MAX;
+    while turns > 0 {
+        let line = take_line(chunk, feed, room);
+        if !line.there {
+            return tally;
+        }
+        tally = run_line(room, line.size, line.fits, tally);
+        feed = line.feed;
+        turns -= 1;
+    }
+    tally
+}
+
+fn main() {
+    let mut chunk = [0u8; 65536];
+    let mut room = [0u8; 524288];
+    show_tally(run_lines(&mut chunk, &mut room));
+}

@@ -1,0 +1,46 @@
+// The operations of the second engine.
+use crate::cases::Numbers;
+use crate::cases::Operation;
+use crate::rows::narrow;
+use crate::rows::row;
+use second::Outcome;
+
+// The check of a net.
+pub fn on_words(n: Numbers, words: &[u32]) -> Outcome {
+    second::check_net(n.o, n.k, words)
+}
+
+// An operation that is lent marks alone.
+pub fn on_marks(operation: Operation, n: Numbers, words: &[u32], marks: &mut [u8]) -> Outcome {
+    match operation {
+        Operation::ForwardScan => second::forward_scan(n.o, n.k, words, n.x, n.y, marks),
+        Operation::KindScan => second::kind_scan(n.o, n.k, words, n.x, n.y, marks),
+        Operation::Question => second::question(n.o, n.k, words, n.x, n.y, marks),
+        _ => second::clash(n.o, n.k, words, marks),
+    }
+}
+
+// The completion.
+pub fn on_list(n: Numbers, words: &[u32], marks: &mut [u8], list: &mut [u32]) -> Outcome {
+    second::completion(n.o, n.k, words, marks, list)
+}
+
+// The reason.
+pub fn on_scratch(n: Numbers, words: &[u32], scratch: &mut [u16], list: &mut [u16]) -> Outcome {
+    second::reason(n.o, n.k, words, n.x, n.y, n.sign, scratch, list)
+}
+
+// The check of a reason.
+pub fn on_reason(n: Numbers, words: &[u32], list: &[u16]) -> Outcome {
+    second::reason_check(n.o, n.k, words, n.x, n.y, n.sign, list)
+}
+
+// The contents of a file.
+pub fn on_file(file: &[u8]) -> Outcome {
+    second::read_file(file)
+}
+
+// The text of `ask`: its length.
+pub fn on_text(file: &[u8], text: &mut [u8; 262144]) -> Outcome {
+    row(0, narrow(second::ask_text(file, text)), 0)
+}
