@@ -4,6 +4,8 @@ use Prim.Native.Nat.{ℕ}
 use mathlib.Core.Path.{_≡_, refl, sym, ap, _∙_}
 use mathlib.Core.List.{List, _++_}
 use lib.ListN.{length, drop}
+use Rattle.words.specs.Table.{checkNet}
+use Rattle.words.specs.declared.Checked.{Checked}
 use Rattle.machine.specs.Scanning.{Outcome, outcome, forwardScanned, kindScanned}
 use Rattle.machine.specs.declared.Scanned.{Scanned}
 use Rattle.answers.specs.Table.{Question, question, questioned, Clash, clash, clashedBy}
@@ -73,6 +75,10 @@ module _ (o k : ℕ) (ws : List ℕ) where
   -- The reason check, which is lent nothing to write to.
   pub check-unique : (x y sign : ℕ) (list : List ℕ) (r q : Verdict) → r ≡ verdict o k ws x y sign list → q ≡ verdict o k ws x y sign list → r ≡ q
   check-unique x y sign list r q e f = both-are r q e f
+
+-- The check of a net, which is lent nothing to write to either.
+pub net-unique : (o k : ℕ) (ws : List ℕ) (r q : Checked) → r ≡ checkNet o k ws → q ≡ checkNet o k ws → r ≡ q
+net-unique o k ws r q e f = both-are r q e f
 
 -- The reader of a file: the contents, and the bytes of the three bodies.
 pub contents-unique : (file : List ℕ) (r q : Contents) → r ≡ contentsOf file → q ≡ contentsOf file → r ≡ q

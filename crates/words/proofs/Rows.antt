@@ -1,7 +1,9 @@
 -- The paper's row tells which refusal it is.
 use Prim.Native.Nat.{ℕ, zero, suc, _-_}
 use mathlib.Core.Path.{_≡_, refl, sym, ap, _∙_}
-use Rattle.words.specs.Table.{Row, row, refusalRow}
+use Rattle.words.specs.Table.{Row, row, refusalRow, checkedRow}
+use Rattle.words.specs.declared.Checked.{Checked}
+use Rattle.words.specs.declared.Checked.the-variants.{Nodes, Refused}
 use Rattle.words.specs.declared.Refusal.{Refusal}
 use Rattle.words.specs.declared.Refusal.the-variants.{TooManyNodes, TooManyWords, IllegalWord, BadQuestion, ShortBuffer}
 
@@ -27,3 +29,23 @@ refusal-at-row ShortBuffer = refl
 -- No two refusals have one row.
 pub refusal-row-one-to-one : (r q : Refusal) → refusalRow r ≡ refusalRow q → r ≡ q
 refusal-row-one-to-one r q e = sym (refusal-at-row r) ∙ ap refusalAt e ∙ refusal-at-row q
+
+-- The answer of the check of a net, by its number and value.
+abbrev checkedOf : ℕ → Row → Checked
+checkedOf zero r = Nodes (r .first)
+checkedOf (suc n) r = Refused (refusalAt r)
+
+abbrev checkedAt : Row → Checked
+checkedAt r = checkedOf (r .number) r
+
+checked-at-row : (c : Checked) → checkedAt (checkedRow c) ≡ c
+checked-at-row (Nodes n) = refl
+checked-at-row (Refused TooManyNodes) = refl
+checked-at-row (Refused TooManyWords) = refl
+checked-at-row (Refused (IllegalWord i)) = refl
+checked-at-row (Refused BadQuestion) = refl
+checked-at-row (Refused ShortBuffer) = refl
+
+-- No two answers of the check of a net have one row.
+pub checked-row-one-to-one : (c d : Checked) → checkedRow c ≡ checkedRow d → c ≡ d
+checked-row-one-to-one c d e = sym (checked-at-row c) ∙ ap checkedAt e ∙ checked-at-row d
