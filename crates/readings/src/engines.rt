@@ -1,17 +1,17 @@
 // One case on one engine: the buffers are lent in the widths that the operation takes, and taken back as numbers.
 ghost use Prim.Native.Nat.{_≤_};
-use crate::cases::Numbers;
-use crate::cases::Operation;
 use crate::other;
-use crate::places::bytes_between;
-use crate::places::halves_before;
-use crate::places::numbers_from;
 use crate::proved;
-use crate::widths::copy;
-use crate::widths::from_bytes;
-use crate::widths::from_halves;
-use crate::widths::to_bytes;
-use crate::widths::to_halves;
+use cases::operations::Numbers;
+use cases::operations::Operation;
+use cases::places::bytes_between;
+use cases::places::halves_before;
+use cases::places::numbers_from;
+use cases::widths::copy;
+use cases::widths::from_bytes;
+use cases::widths::from_halves;
+use cases::widths::to_bytes;
+use cases::widths::to_halves;
 use second::Outcome;
 
 // Where the second buffer begins, after room for the first, and the size of the text of `ask`.

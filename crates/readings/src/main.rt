@@ -1,10 +1,5 @@
 // Runs the cases of standard input on the proved operations and on the second engine, and says of each whether they agree.
 
-mod places; // places.rt: reading and writing at any place of a slice
-mod widths; // widths.rt: numbers as bytes and as u16, and back
-mod feed; // feed.rt: standard input, line by line
-mod fields; // fields.rt: numbers and lists of a line
-mod cases; // cases.rt: the operations and the fields of each
 mod rows; // rows.rt: number and values of the proved operations' answers
 mod proved; // proved.rt: the proved operations
 mod other; // other.rt: the second engine's operations
@@ -13,9 +8,9 @@ mod show; // show.rt: what is printed
 mod tally; // tally.rt: how many cases were run, and how they ended
 mod compare; // compare.rt: one line on both engines
 
+use cases::feed::Feed;
+use cases::feed::take_line;
 use compare::run_line;
-use feed::Feed;
-use feed::take_line;
 use tally::Tally;
 use tally::empty_tally;
 use tally::show_tally;

@@ -1,8 +1,8 @@
 // The operations of the second engine.
-use crate::cases::Numbers;
-use crate::cases::Operation;
 use crate::rows::narrow;
 use crate::rows::row;
+use cases::operations::Numbers;
+use cases::operations::Operation;
 use second::Outcome;
 
 // The check of a net.

@@ -1,6 +1,4 @@
 // The proved operations, each as an outcome.
-use crate::cases::Numbers;
-use crate::cases::Operation;
 use crate::rows::asked_row;
 use crate::rows::checked_row;
 use crate::rows::clashed_row;
@@ -13,6 +11,8 @@ use crate::rows::scanned_row;
 use crate::rows::verdict_row;
 use answers::ask_question;
 use answers::find_clash;
+use cases::operations::Numbers;
+use cases::operations::Operation;
 use checks::check_reason;
 use completion::complete_net;
 use machine::forward_scan;

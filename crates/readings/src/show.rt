@@ -1,6 +1,6 @@
 // What is printed: numbers, and lists in brackets whose runs of four and more are shortened.
-use crate::places::distance;
-use crate::places::number_at;
+use cases::places::distance;
+use cases::places::number_at;
 use libc::STDOUT_FILENO;
 use second::Outcome;
 

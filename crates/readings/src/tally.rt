@@ -1,7 +1,7 @@
 // How many lines were read and cases run, and how they ended.
-use crate::fields::LARGE;
 use crate::show::show;
 use crate::show::show_number;
+use cases::fields::LARGE;
 
 // The number of lines read, of cases run, of those on which the engines agreed and differed, and of lines that were no case.
 pub struct Tally {
