@@ -8,7 +8,7 @@ use native.Mathlib.Omega.{arith}
 use borrow.Author.Tests.{ltb-false, leb-false, le-ltb, lt-leb}
 use lib.Dec.{ltb, leb}
 use lib.ListN.{getD}
-use Rattle.laws.proofs.Booleans.{clash, not-so}
+use Rattle.laws.proofs.Booleans.{clash, not-so, or-none-left, or-none-right}
 use Rattle.theory.specs.Words.{signAt}
 use Rattle.theory.specs.Nets.{Links, Net}
 use Rattle.theory.specs.Support.{Supported}
@@ -30,10 +30,6 @@ use Rattle.checks.specs.declared.Verdict.{Verdict}
 use Rattle.checks.specs.declared.Verdict.the-variants.{Holds, Fails, Refused}
 use Rattle.checks.proofs.Verdicts.{net-refused, net-checked}
 
-or-none : (p q : Bool) → (p || q) ≡ false → (p ≡ false) × (q ≡ false)
-or-none true q h = clash (sym h)
-or-none false q h = (refl, h)
-
 must-be : (p : Bool) → (p ≡ false → ⊥) → p ≡ true
 must-be true h = refl
 must-be false h = absurd (h refl)
@@ -44,13 +40,12 @@ good-statement o k x y sign = (means, passes-on)
   where
     means : badStatement o (o + k) x y sign ≡ false → Askable o k x y sign
     means h =
-        let p = or-none (leb (o + k) x || (ltb y o || leb (o + k) y)) (ltb 1 sign) h in
-        let q = or-none (leb (o + k) x) (ltb y o || leb (o + k) y) (p .0) in
-        let r = or-none (ltb y o) (leb (o + k) y) (q .1) in
+        let pair = or-none-left (leb (o + k) x || (ltb y o || leb (o + k) y)) (ltb 1 sign) h in
+        let kinds = or-none-right (leb (o + k) x) (ltb y o || leb (o + k) y) pair in
         record {
-          node = leb-false (o + k) x (q .0);
-          kind = record { low = ltb-false y o (r .0); high = leb-false (o + k) y (r .1) };
-          low = ltb-false 1 sign (p .1);
+          node = leb-false (o + k) x (or-none-left (leb (o + k) x) (ltb y o || leb (o + k) y) pair);
+          kind = record { low = ltb-false y o (or-none-left (ltb y o) (leb (o + k) y) kinds); high = leb-false (o + k) y (or-none-right (ltb y o) (leb (o + k) y) kinds) };
+          low = ltb-false 1 sign (or-none-right (leb (o + k) x || (ltb y o || leb (o + k) y)) (ltb 1 sign) h);
         }
 
     passes-on : Askable o k x y sign → badStatement o (o + k) x y sign ≡ false

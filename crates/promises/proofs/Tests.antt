@@ -6,11 +6,11 @@ use mathlib.Core.List.{List}
 use mathlib.Core.Logic.{_↔_, _⊎_, inl, inr}
 use native.Mathlib.Omega.{arith}
 use native.Mathlib.Decide.{decLt}
-use native.Mathlib.Nat.{le-of-lt, le-refl}
+use native.Mathlib.Nat.{le-refl}
 use lib.Dec.{eqb, ltb, leb}
 use lib.ListN.{length, getD}
 use borrow.Author.Tests.{le-ltb, not-true}
-use Rattle.laws.proofs.Booleans.{clash, not-so}
+use Rattle.laws.proofs.Booleans.{clash}
 use Rattle.theory.specs.Words.{Sign, nodeLimit, wordLimit}
 use Rattle.theory.specs.Nets.{Kind, Links, Net}
 use Rattle.theory.specs.Support.{Supported}
@@ -50,13 +50,6 @@ module _ (o k : ℕ) (ws : List ℕ) where
   -- Line 3: the word at the index given is the first illegal one.
   pub line-3 : Decides (ltb (legalPrefix o (o + k) ws) (length ws)) (FirstIllegal o k ws (legalPrefix o (o + k) ws))
   line-3 = decides-same _ (decides-below (legalPrefix o (o + k) ws) (length ws)) stops (λ f. f .below)
-
-  -- And there is no other first illegal word.
-  pub line-3-index : (i : ℕ) → FirstIllegal o k ws i → legalPrefix o (o + k) ws ≡ i
-  line-3-index i f =
-      prefix-is o (o + k) ws i (le-of-lt (f .below))
-      (λ l. not-so (legal o (o + k) (getD ws i 0)) (λ (e : legal o (o + k) (getD ws i 0) ≡ true). f .illegal (legal-means o k (getD ws i 0) .0 e)))
-      (λ j l. legal-means o k (getD ws j 0) .1 (f .before j l))
 
   -- Where none of the three lines applies the words are a net, and the other way round.
   pub past-line-3 : ((ltb nodeLimit (o + k) ≡ false) × (ltb wordLimit (length ws) ≡ false) × (ltb (legalPrefix o (o + k) ws) (length ws) ≡ false)) ↔ Net o k ws

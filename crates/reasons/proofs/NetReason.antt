@@ -8,6 +8,7 @@ use borrow.Author.Tests.{leb-false, lt-ltb, le-ltb}
 use lib.Dec.{ltb, leb}
 use lib.ListN.{length, take, drop}
 use lib.Seq.{take-at}
+use Rattle.laws.proofs.Booleans.{or-none-left, or-none-right}
 use Rattle.theory.specs.Words.{Sign, signAt}
 use Rattle.theory.specs.Nets.{Net}
 use Rattle.theory.specs.Searches.{distances, reasonStates}
@@ -55,10 +56,6 @@ module _ (n : ℕ) (s : Sign) (ws : List ℕ) (y : ℕ) (d b : List ℕ) (found 
   pub front-leads : Net 0 n ws → y < n → Leads n s ws (take (n + n) (b ++ drop (n + n) d))
   front-leads net h = rw front (distances-lead n s ws y net h)
 
-or-off : (p q : Bool) → (p || q) ≡ false → (p ≡ false) × (q ≡ false)
-or-off true q e = (e, let z : _≡_ {A = ℕ} 0 1 = cc in absurd (omega arith))
-or-off false q e = (refl, e)
-
 -- The code's test of the statement said `bad`.
 module _ (o n : ℕ) (ws : List ℕ) (x y sign : ℕ) (d l : List ℕ) {bad : Bool} (told : bad ≡ badStatement o n x y sign) where
   -- Row 4.
@@ -73,9 +70,9 @@ module _ (o n : ℕ) (ws : List ℕ) (x y sign : ℕ) (d l : List ℕ) {bad : Bo
     -- A statement that is not bad is about two nodes.
     pub good-nodes : (x < n) × (y < n)
     good-nodes =
-        let p = or-off (badPair o n x y) (ltb 1 sign) good .0 in
-        let q = or-off (leb n x) (ltb y o || leb n y) p in
-        (leb-false n x (q .0), leb-false n y (or-off (ltb y o) (leb n y) (q .1) .1))
+        let pair = or-none-left (badPair o n x y) (ltb 1 sign) good in
+        let kinds = or-none-right (leb n x) (ltb y o || leb n y) pair in
+        (leb-false n x (or-none-left (leb n x) (ltb y o || leb n y) pair), leb-false n y (or-none-right (ltb y o) (leb n y) kinds))
 
     -- Row 5.
     pub net-short : length d < n + n → reason (Refused ShortBuffer) d l ≡ reasonNet o n ws x y sign d l
