@@ -13,6 +13,9 @@
  *   - No pointer is null, and each is aligned for its type. This holds for an empty buffer too: pass the address of any
  *     object of the element's type with length 0. Nothing is read or written through it.
  *
+ * What no line names keeps its contents: marks from o + k on, the scratch from 2 * (o + k) on, and a list after what is
+ * written to its front are never touched.
+ *
  * The library keeps nothing between calls, allocates nothing and calls nothing but memory functions of the C library:
  * calls from several threads may run at once where they write to different buffers. The code is for x86-64 and the
  * System V calling convention.
@@ -99,7 +102,7 @@ struct strumelka_answer strumelka_check_net(
  *   5        marks_len is below STRUMELKA_MARKS(o, k); marks unchanged
  *   6        the scan needs more rounds than budget; first = budget; marks after exactly that many rounds. What they
  *            say holds, and more may follow
- * Bytes of marks from o + k on are never touched. A budget of 2 * (o + k) is always enough. */
+ * A budget of 2 * (o + k) is always enough. */
 struct strumelka_answer strumelka_forward_scan(
     uint32_t o, uint32_t k, const uint32_t *words, size_t words_len,
     uint32_t start, uint32_t budget, uint8_t *marks, size_t marks_len);
@@ -151,8 +154,7 @@ struct strumelka_answer strumelka_clash(
  *   7        the net does not support the statement; list unchanged
  *   8        list_len is too small; first = the places needed; list unchanged
  * With 0, 7 and 8 place v of scratch holds the fewest links from node v in the first part to the path's end, and place
- * o + k + v the same for node v in the second part, STRUMELKA_NO_WAY where there is none. Places of scratch from
- * 2 * (o + k) on are never touched. */
+ * o + k + v the same for node v in the second part, STRUMELKA_NO_WAY where there is none. */
 struct strumelka_answer strumelka_reason(
     uint32_t o, uint32_t k, const uint32_t *words, size_t words_len,
     uint32_t x, uint32_t y, uint32_t sign,

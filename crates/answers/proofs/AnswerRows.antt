@@ -1,4 +1,4 @@
--- The paper's row tells what a question answered, and what a clash test did.
+-- The paper's row tells what a question answered.
 use Prim.Native.Nat.{ℕ, zero, suc}
 use mathlib.Core.Path.{_≡_, refl, sym, ap, _∙_}
 use mathlib.Core.Bool.{cond}
@@ -6,13 +6,11 @@ use lib.Dec.{eqb}
 use Rattle.words.specs.Table.{Row}
 use Rattle.words.specs.declared.Refusal.the-variants.{TooManyNodes, TooManyWords, IllegalWord, BadQuestion, ShortBuffer}
 use Rattle.words.proofs.Rows.{refusalAt}
-use Rattle.answers.specs.Table.{askedRow, clashedRow}
+use Rattle.answers.specs.Table.{askedRow}
 use Rattle.answers.specs.declared.Answer.{Answer}
 use Rattle.answers.specs.declared.Answer.the-variants.{None, Yes, No, Both}
 use Rattle.answers.specs.declared.Asked.{Asked}
 use Rattle.answers.specs.declared.Asked.the-variants as asked
-use Rattle.answers.specs.declared.Clashed.{Clashed}
-use Rattle.answers.specs.declared.Clashed.the-variants as clashed
 
 -- The answer of a number.
 abbrev answerOf : ℕ → Answer
@@ -25,9 +23,6 @@ answerOf (suc (suc (suc n))) = Both
 abbrev askedAt : Row → Asked
 askedAt r = cond (eqb (r .number) 0) (asked.Done (answerOf (r .first)) (r .second)) (asked.Refused (refusalAt r))
 
-abbrev clashedAt : Row → Clashed
-clashedAt r = cond (eqb (r .number) 0) (clashed.At (r .first) (r .second)) (cond (eqb (r .number) 7) clashed.Nowhere (clashed.Refused (refusalAt r)))
-
 asked-at-row : (r : Asked) → askedAt (askedRow r) ≡ r
 asked-at-row (asked.Done None count) = refl
 asked-at-row (asked.Done Yes count) = refl
@@ -39,19 +34,6 @@ asked-at-row (asked.Refused (IllegalWord i)) = refl
 asked-at-row (asked.Refused BadQuestion) = refl
 asked-at-row (asked.Refused ShortBuffer) = refl
 
-clashed-at-row : (r : Clashed) → clashedAt (clashedRow r) ≡ r
-clashed-at-row (clashed.At x y) = refl
-clashed-at-row clashed.Nowhere = refl
-clashed-at-row (clashed.Refused TooManyNodes) = refl
-clashed-at-row (clashed.Refused TooManyWords) = refl
-clashed-at-row (clashed.Refused (IllegalWord i)) = refl
-clashed-at-row (clashed.Refused BadQuestion) = refl
-clashed-at-row (clashed.Refused ShortBuffer) = refl
-
 -- No two answers to a question have one row.
 pub asked-row-one-to-one : (r q : Asked) → askedRow r ≡ askedRow q → r ≡ q
 asked-row-one-to-one r q e = sym (asked-at-row r) ∙ ap askedAt e ∙ asked-at-row q
-
--- No two answers of a clash test have one row.
-pub clashed-row-one-to-one : (r q : Clashed) → clashedRow r ≡ clashedRow q → r ≡ q
-clashed-row-one-to-one r q e = sym (clashed-at-row r) ∙ ap clashedAt e ∙ clashed-at-row q

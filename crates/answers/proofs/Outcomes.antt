@@ -1,27 +1,24 @@
--- Each outcome of a question and of a clash test, in the terms of the code.
+-- Each outcome of a question, in the terms of the code.
 use Prim.Native.Nat.{ℕ, _+_, _*_, _<_, _≤_}
-use mathlib.Core.Path.{_≡_, refl, sym, ap, _∙_}
-use mathlib.Core.Bool.{Bool, true, false, cond, _||_}
+use mathlib.Core.Path.{_≡_, ap, _∙_}
+use mathlib.Core.Bool.{true, false, _||_}
 use mathlib.Core.List.{List, _++_}
 use native.Mathlib.Omega.{arith}
 use borrow.Author.Tests.{lt-ltb, le-ltb, leb-false, ltb-false}
 use lib.Dec.{ltb, leb}
-use lib.ListN.{length, getD, drop, replicate, List·getD-append}
+use lib.ListN.{length, getD, drop, List·getD-append}
 use Rattle.laws.proofs.Booleans.{or-none-left, or-none-right}
-use Rattle.theory.specs.Nets.{Kind, Net}
-use Rattle.theory.specs.Scans.{Scan, forwardScan}
+use Rattle.theory.specs.Nets.{Net}
+use Rattle.theory.specs.Scans.{forwardScan}
 use Rattle.words.specs.Table.{checkNet, badPair}
 use Rattle.words.specs.declared.Refusal.{Refusal}
 use Rattle.words.specs.declared.Refusal.the-variants.{BadQuestion, ShortBuffer}
 use Rattle.words.specs.declared.Checked.{Checked}
 use Rattle.words.specs.declared.Checked.the-variants as checked
 use Rattle.words.proofs.NetCheck.{check-is-net}
-use Rattle.answers.specs.Table.{answerAt, Question, question, readAt, questionNet, questionChecked, Clash, clash, cleared, clashNodes, firstClash, clashNet, clashChecked}
+use Rattle.answers.specs.Table.{answerAt, Question, question, questionNet, questionChecked}
 use Rattle.answers.specs.declared.Answer.{Answer}
-use Rattle.answers.specs.declared.Asked.{Asked}
 use Rattle.answers.specs.declared.Asked.the-variants as asked
-use Rattle.answers.specs.declared.Clashed.{Clashed}
-use Rattle.answers.specs.declared.Clashed.the-variants as clashed
 use Rattle.answers.proofs.FullScans.{full-long}
 
 -- What the check of a net hands on.
@@ -77,28 +74,3 @@ module _ (o : ℕ) (ws : List ℕ) (x y : ℕ) (m : List ℕ) {net : Checked} wh
   pub ask-checked : {n : ℕ} {s : Question} → net ≡ checked.Nodes n → s ≡ questionNet o n ws x y m → s ≡ questionChecked o ws x y m net
   unfolding questionChecked
   ask-checked e h = rw e h
-
-module _ (o k n : ℕ) (ws m : List ℕ) where
-  -- Row 5.
-  pub clash-short : length m < n → clash (clashed.Refused ShortBuffer) m ≡ clashNet o k n ws m
-  unfolding clashNet
-  clash-short h = rw (lt-ltb (length m) n h)
-
-  -- Rows 7 and 0: the code searched, was left with the marks m₁, and cleared them to m₂.
-  pub clash-done : n ≤ length m → (m₁ m₂ : List ℕ) (r : Clashed) → r ≡ firstClash o k ws 0 (clashNodes o k) → drop n m₁ ≡ drop n m → m₂ ≡ replicate n 0 ++ drop n m₁
-      → clash r m₂ ≡ clashNet o k n ws m
-  unfolding clashNet
-  clash-done h m₁ m₂ r f p c =
-      rw (le-ltb (length m) n h) (both f (c ∙ ap (λ (q : List ℕ). replicate n 0 ++ q) p))
-    where
-      both : {a b : Clashed} {p q : List ℕ} → a ≡ b → p ≡ q → clash a p ≡ clash b q
-      both e f = λ i. record { answer = e i; marks = f i }
-
-module _ (o k : ℕ) (ws m : List ℕ) {net : Checked} where
-  pub clash-refused : {r : Refusal} → net ≡ checked.Refused r → clash (clashed.Refused r) m ≡ clashChecked o k ws m net
-  unfolding clashChecked
-  clash-refused e = rw e
-
-  pub clash-checked : {n : ℕ} {s : Clash} → net ≡ checked.Nodes n → s ≡ clashNet o k n ws m → s ≡ clashChecked o k ws m net
-  unfolding clashChecked
-  clash-checked e h = rw e h

@@ -1,20 +1,16 @@
--- Readings of question and clash test, by computation.
+-- Readings of the question, by computation.
 use Prim.Native.Nat.{ℕ}
 use mathlib.Core.Path.{_≡_, refl}
 use mathlib.Core.List.{List, [], _∷_}
 use Rattle.theory.specs.Marks.{mark, link, links, command, round}
 use Rattle.theory.specs.Scans.{same, rounds}
+use Rattle.theory.specs.NetM.{M}
 use Rattle.words.specs.Legal.{legalPrefix}
 use Rattle.words.specs.Table.{checkNet}
 use Rattle.words.specs.declared.Refusal.the-variants.{IllegalWord, BadQuestion, ShortBuffer}
-use Rattle.answers.specs.Table.{question, questionNet, questionChecked, questioned, clash, firstBoth, firstClash, clashNet, clashChecked, clashedBy}
+use Rattle.answers.specs.Table.{question, questionNet, questionChecked, questioned}
 use Rattle.answers.specs.declared.Answer.the-variants.{None, Yes, No, Both}
 use Rattle.answers.specs.declared.Asked.the-variants as asked
-use Rattle.answers.specs.declared.Clashed.the-variants as clashed
-
--- The words of net M: two objects, the traces 0 and 1, and four kinds.
-abbrev M : List ℕ
-M = 4 ∷ 2058 ∷ 4103 ∷ 8198 ∷ 10248 ∷ []
 
 -- Eight bytes that a caller may have left.
 abbrev left : List ℕ
@@ -54,11 +50,7 @@ pub ask-short : questioned 2 4 M 0 4 (255 ∷ 7 ∷ 9 ∷ 3 ∷ 1 ∷ []) ≡ qu
 unfolding questionChecked questionNet checkNet legalPrefix rounds same round command links link mark
 ask-short = refl
 
--- An object that is and is not a kind clashes there; about the other kind nothing is said.
-pub clash-0-1 : clashedBy 1 2 (2 ∷ 3 ∷ []) (9 ∷ 9 ∷ 9 ∷ 77 ∷ 78 ∷ []) ≡ clash (clashed.At 0 1) (0 ∷ 0 ∷ 0 ∷ 77 ∷ 78 ∷ [])
-unfolding clashChecked clashNet firstClash firstBoth checkNet legalPrefix rounds same round command links link mark
-clash-0-1 = refl
-
+-- An object that is and is not a kind: both there, and about the other kind nothing is said.
 pub ask-0-1 : questioned 1 2 (2 ∷ 3 ∷ []) 0 1 (0 ∷ 0 ∷ 0 ∷ []) ≡ question (asked.Done Both 2) (3 ∷ 3 ∷ 0 ∷ [])
 unfolding questionChecked questionNet checkNet legalPrefix rounds same round command links link mark
 ask-0-1 = refl
@@ -66,26 +58,3 @@ ask-0-1 = refl
 pub ask-0-2 : questioned 1 2 (2 ∷ 3 ∷ []) 0 2 (0 ∷ 0 ∷ 0 ∷ []) ≡ question (asked.Done None 2) (3 ∷ 3 ∷ 0 ∷ [])
 unfolding questionChecked questionNet checkNet legalPrefix rounds same round command links link mark
 ask-0-2 = refl
-
--- Net M has no clash, and a kind that is not itself is none.
-pub clash-M : clashedBy 2 4 M left ≡ clash clashed.Nowhere (0 ∷ 0 ∷ 0 ∷ 0 ∷ 0 ∷ 0 ∷ 200 ∷ 201 ∷ [])
-unfolding clashChecked clashNet firstClash firstBoth checkNet legalPrefix rounds same round command links link mark
-clash-M = refl
-
-pub clash-kind : clashedBy 0 1 (1 ∷ []) (255 ∷ 254 ∷ []) ≡ clash clashed.Nowhere (0 ∷ 254 ∷ [])
-unfolding clashChecked clashNet firstClash firstBoth checkNet legalPrefix rounds same round command links link mark
-clash-kind = refl
-
--- The smallest object and then its smallest kind: 1 clashes at 3 and 4, and so does 2.
-pub clash-smallest : clashedBy 3 2 (2054 ∷ 2055 ∷ 2056 ∷ 2057 ∷ 4102 ∷ 4103 ∷ []) (1 ∷ 2 ∷ 3 ∷ 4 ∷ 5 ∷ 6 ∷ []) ≡ clash (clashed.At 1 3) (0 ∷ 0 ∷ 0 ∷ 0 ∷ 0 ∷ 6 ∷ [])
-unfolding clashChecked clashNet firstClash firstBoth checkNet legalPrefix rounds same round command links link mark
-clash-smallest = refl
-
--- A byte too few is row 5; no nodes need none.
-pub clash-short : clashedBy 1 2 (2 ∷ 3 ∷ []) (9 ∷ 9 ∷ []) ≡ clash (clashed.Refused ShortBuffer) (9 ∷ 9 ∷ [])
-unfolding clashChecked clashNet firstClash firstBoth checkNet legalPrefix rounds same round command links link mark
-clash-short = refl
-
-pub clash-empty : clashedBy 0 0 [] (9 ∷ []) ≡ clash clashed.Nowhere (9 ∷ [])
-unfolding clashChecked clashNet firstClash firstBoth checkNet legalPrefix rounds same round command links link mark
-clash-empty = refl

@@ -1,4 +1,3 @@
-pub mod Steps
 pub mod Shape
 pub mod Verdicts
 pub mod Rows

@@ -3,6 +3,7 @@ use Prim.Native.Nat.{ℕ}
 use mathlib.Core.Path.{_≡_, refl}
 use mathlib.Core.List.{List, [], _∷_}
 use Rattle.theory.specs.Checks.{listed, allSteps, passes}
+use Rattle.theory.specs.NetM.{M}
 use Rattle.words.specs.Legal.{legalPrefix}
 use Rattle.words.specs.Table.{checkNet}
 use Rattle.words.specs.declared.Refusal.the-variants.{TooManyNodes, IllegalWord, BadQuestion}
@@ -12,7 +13,7 @@ use Rattle.checks.specs.declared.Verdict.the-variants.{Holds, Fails, Ref
 
 -- The verdict on a list for x and y in the net M.
 abbrev inM : ℕ → ℕ → ℕ → List ℕ → Verdict
-inM x y sign l = verdict 2 4 (4 ∷ 2058 ∷ 4103 ∷ 8198 ∷ 10248 ∷ []) x y sign l
+inM x y sign l = verdict 2 4 M x y sign l
 
 -- The shortest reason for 0 ↛ 5.
 pub reason : inM 0 5 1 (2 ∷ 3 ∷ 0 ∷ 2 ∷ 3 ∷ 4 ∷ 5 ∷ []) ≡ Holds

@@ -1,3 +1,2 @@
 pub mod Askable
-pub mod Steps
 pub mod Table

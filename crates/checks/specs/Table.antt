@@ -26,7 +26,7 @@ verdictChecked o k ws x y sign l (checked.Refused r) = Refused r
 abbrev pub verdict : ℕ → ℕ → List ℕ → ℕ → ℕ → ℕ → List ℕ → Verdict
 verdict o k ws x y sign l = verdictChecked o k ws x y sign l (checkNet o k ws)
 
--- The paper's number and value for each answer: yes is 1, no is 0.
+-- The paper's number for each answer; that yes is the value 1 and no 0 is this project's.
 abbrev pub verdictRow : Verdict → Row
 verdictRow Holds = row 0 1 0
 verdictRow Fails = row 0 0 0

@@ -9,7 +9,7 @@ use lib.Seq.{getD-set-same, getD-set-other}
 use Rattle.theory.specs.Marks.{near, link, links}
 use Rattle.theory.specs.declared.Command.{Command}
 use Rattle.theory.proofs.Inside.{Ends, Inside, near-in, inside-first, inside-rest}
-use Rattle.commands.specs.Asks.{Agree}
+use Rattle.commands.specs.Copies.{Agree}
 
 -- A copy that agrees below i, with one byte more.
 pub agree-more : (i : ℕ) (old m : List ℕ) → i < length old → Agree i old m → Agree (i + 1) (set old i (getD m i 0)) m

@@ -5,16 +5,14 @@ use mathlib.Core.List.{List, [], _∷_, _++_}
 use Rattle.theory.specs.Marks.{mark, link, links, command, round}
 use Rattle.theory.specs.Scans.{same, rounds}
 use Rattle.theory.specs.Completion.{row, rows, complete}
+use Rattle.theory.specs.NetM.{M}
 use Rattle.words.specs.Legal.{legalPrefix}
 use Rattle.words.specs.Table.{checkNet}
 use Rattle.words.specs.declared.Refusal.the-variants.{TooManyNodes, IllegalWord, ShortBuffer}
 use Rattle.completion.specs.Table.{completion, completionNet, completionChecked, completedBy}
 use Rattle.completion.specs.declared.Completed.the-variants.{Done, Short, Refused}
 
--- The words of net M, and of its completed list.
-abbrev M : List ℕ
-M = 4 ∷ 2058 ∷ 4103 ∷ 8198 ∷ 10248 ∷ []
-
+-- The words of net M's completed list.
 abbrev completedM : List ℕ
 completedM =
     4 ∷ 7 ∷ 9 ∷ 11 ∷ 2053 ∷ 2054 ∷ 2056 ∷ 2058 ∷ 4100 ∷ 4103 ∷ 4105 ∷ 4107 ∷ 6149 ∷ 6150 ∷ 8197 ∷ 8198 ∷ 8200 ∷ 10245 ∷ 10246 ∷ 10248 ∷ 10250 ∷ []

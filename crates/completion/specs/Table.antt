@@ -1,16 +1,15 @@
 -- The outcome of a completion, by the number table from top to bottom.
 use Prim.Native.Nat.{ℕ, _+_}
-use mathlib.Core.Bool.{Bool, cond}
+use mathlib.Core.Bool.{cond}
 use mathlib.Core.List.{List, _++_}
 use lib.Dec.{ltb}
 use lib.ListN.{length, drop}
 use Rattle.theory.specs.Completion.{complete}
 use Rattle.words.specs.Table.{checkNet, Row, row, refusalRow}
-use Rattle.words.specs.declared.Refusal.{Refusal}
 use Rattle.words.specs.declared.Refusal.the-variants.{ShortBuffer}
 use Rattle.words.specs.declared.Checked.{Checked}
 use Rattle.words.specs.declared.Checked.the-variants as checked
-use Rattle.answers.specs.Table.{cleared}
+use Rattle.starts.specs.Starts.{cleared}
 use Rattle.completion.specs.declared.Completed.{Completed}
 use Rattle.completion.specs.declared.Completed.the-variants as completed
 

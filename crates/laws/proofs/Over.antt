@@ -1,6 +1,6 @@
 -- Laws of a list that is written over from its front: how one value more, or a part lent from the seam on, extends what is written.
-use Prim.Native.Nat.{ℕ, zero, suc, _+_, _≤_, _<_, _-_}
-use mathlib.Core.Path.{_≡_, refl, sym, ap, _∙_}
+use Prim.Native.Nat.{ℕ, _+_, _≤_, _<_, _-_}
+use mathlib.Core.Path.{_≡_, sym, ap, _∙_}
 use mathlib.Core.List.{List, [], _∷_, _++_, append-assoc, append-nil}
 use native.Mathlib.Omega.{arith}
 use native.Mathlib.Numerals.{add-one}
@@ -31,3 +31,12 @@ lent ws vs l h =
 pub over-more : (ws vs l xs ys : List ℕ) (at : ℕ) → length ws ≡ at → at ≤ length l → xs ≡ over ws l → ys ≡ over vs (take (length xs - at) (drop at xs))
     → take at xs ++ (ys ++ drop (length xs - at) (drop at xs)) ≡ over (ws ++ vs) l
 over-more ws vs l xs ys at e h ex ey = simp (ey, ex, ← e) (lent ws vs l (omega arith))
+
+-- A part more, written into what remains of the list l, where `done` stands in front of it already.
+pub written-more : (done part next l xs ys : List ℕ) (at size : ℕ) → next ≡ done ++ part → length done + length part ≤ length l → at ≡ length done → xs ≡ over done l
+    → size ≡ length part → ys ≡ over part (take (length xs - at) (drop at xs))
+    → let out = take at xs ++ (ys ++ drop (length xs - at) (drop at xs)) in (length out ≡ length l) × (at + size ≡ length next) × (out ≡ over next l)
+written-more done part next l xs ys at size n h a x s y =
+    let both : length next ≡ length done + length part = ap length n ∙ length-append done part in
+    let e = over-more done part l xs ys at (sym a) (omega (arith, a)) x y ∙ ap (λ (q : List ℕ). over q l) (sym n) in
+    (ap length e ∙ length-over next l (omega (arith, both)), omega (arith, both), e)

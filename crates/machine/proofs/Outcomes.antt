@@ -18,10 +18,12 @@ use Rattle.words.specs.declared.Checked.{Checked}
 use Rattle.words.specs.declared.Checked.the-variants.{Nodes}
 use Rattle.words.specs.declared.Checked.the-variants as checked
 use Rattle.words.proofs.NetCheck.{check-is-net}
-use Rattle.machine.specs.Scanning.{Outcome, outcome, commands, start, badStart, scanNet, scanChecked}
+use Rattle.turns.specs.Turns.{commands}
+use Rattle.machine.specs.Scanning.{Outcome, outcome, badStart, scanNet, scanChecked}
+use Rattle.starts.specs.Starts.{start}
 use Rattle.machine.specs.declared.Scanned.the-variants.{Done, Spent, Refused}
-use Rattle.machine.proofs.Turns.{puts}
-use Rattle.machine.proofs.Starts.{start-long}
+use Rattle.turns.proofs.Turns.{puts}
+use Rattle.starts.proofs.Starts.{start-long}
 
 -- What the check of a net hands to the scan.
 pub checked-inside : (o k : ℕ) (ws : List ℕ) (n : ℕ) → checkNet o k ws ≡ Nodes n → Inside n ws × (n ≤ 1024)

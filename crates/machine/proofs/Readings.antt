@@ -1,18 +1,14 @@
 -- Readings of the two scans, by computation.
-use Prim.Native.Nat.{ℕ}
 use mathlib.Core.Path.{_≡_, refl}
-use mathlib.Core.List.{List, [], _∷_}
+use mathlib.Core.List.{[], _∷_}
 use Rattle.theory.specs.Marks.{mark, link, links, command, round}
 use Rattle.theory.specs.Scans.{same, rounds}
+use Rattle.theory.specs.NetM.{M}
 use Rattle.words.specs.Legal.{legalPrefix}
 use Rattle.words.specs.Table.{checkNet}
 use Rattle.words.specs.declared.Refusal.the-variants.{TooManyNodes, IllegalWord, BadQuestion, ShortBuffer}
 use Rattle.machine.specs.Scanning.{outcome, scanNet, scanChecked, forwardScanned, kindScanned}
 use Rattle.machine.specs.declared.Scanned.the-variants.{Done, Spent, Refused}
-
--- The words of net M: two objects, the traces 0 and 1, and four kinds.
-abbrev pub M : List ℕ
-M = 4 ∷ 2058 ∷ 4103 ∷ 8198 ∷ 10248 ∷ []
 
 -- Net M, forward from 0: budget 5 is enough.
 pub forward-5 : forwardScanned 2 4 M 0 5 (255 ∷ 7 ∷ 9 ∷ 3 ∷ 1 ∷ 128 ∷ []) ≡ outcome (Done 5) (1 ∷ 2 ∷ 1 ∷ 2 ∷ 2 ∷ 2 ∷ [])

@@ -4,11 +4,10 @@ use mathlib.Core.Bool.{Bool, true, false, cond, _&&_, _||_}
 use mathlib.Core.List.{List, _++_}
 use lib.Dec.{ltb, leb}
 use lib.ListN.{length, drop}
-use Rattle.theory.specs.Marks.{forward, kindly, forwardStart, kindStart}
 use Rattle.theory.specs.Scans.{Scan, rounds}
-use Rattle.theory.specs.declared.Command.{Command}
+use Rattle.starts.specs.Starts.{start}
+use Rattle.turns.specs.Turns.{commands}
 use Rattle.words.specs.Table.{checkNet, Row, row, refusalRow}
-use Rattle.words.specs.declared.Refusal.{Refusal}
 use Rattle.words.specs.declared.Refusal.the-variants.{BadQuestion, ShortBuffer}
 use Rattle.words.specs.declared.Checked.{Checked}
 use Rattle.words.specs.declared.Checked.the-variants as checked
@@ -22,13 +21,6 @@ pub record Outcome : Type 0 where
 
 abbrev pub outcome : Scanned → List ℕ → Outcome
 outcome r m = record { answer = r; marks = m }
-
--- The commands of a round and the marks at the start: of the kind scan, or of the forward scan.
-abbrev pub commands : Bool → List Command
-commands kind = cond kind kindly forward
-
-abbrev pub start : Bool → ℕ → ℕ → List ℕ
-start kind n x = cond kind (kindStart n x) (forwardStart n x)
 
 -- Row 4: the start is no node, or in the kind scan an object.
 abbrev pub badStart : Bool → ℕ → ℕ → ℕ → Bool

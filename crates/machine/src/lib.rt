@@ -1,17 +1,11 @@
-// The marker machine: a round as a list of commands, the scan within a budget of rounds, and the two scans from a start.
+// The marker machine: the forward scan and the kind scan, each from its start within its budget.
 ghost use mathlib.Core.Path.{_≡_};
-ghost use mathlib.Core.List.{_++_};
-ghost use Prim.Native.Nat.{_<_, _≤_};
-ghost use lib.ListN.{length, replicate, drop};
-ghost use Rattle.theory.specs.Marks.{round};
-ghost use Rattle.theory.specs.Scans.{rounds};
+ghost use Prim.Native.Nat.{_≤_};
 ghost use Rattle.theory.proofs.Inside.{Inside};
-ghost use Rattle.theory.proofs.Growth.{Set};
-ghost use Rattle.machine.specs.Scanning.{outcome, commands, start, scanNet, scanChecked, forwardScanned, kindScanned};
-ghost use Rattle.machine.specs.Bytes.{Low};
+ghost use Rattle.machine.specs.Scanning.{outcome, scanNet, scanChecked, forwardScanned, kindScanned};
 ghost use Rattle.words.specs.Table.{checkNet};
-use commands::run_command;
-use theory::Command;
+use rounds::scan;
+use starts::put_start;
 use words::Checked;
 use words::Refusal;
 use words::check_net;
@@ -21,153 +15,6 @@ pub enum Scanned {
     Done(u32),
     Spent(u32),
     Refused(Refusal),
-}
-
-// Whether the rounds ended within their budget, and how many were run.
-struct Ran {
-    done: bool,
-    count: u32,
-}
-
-// The three markers.
-const T: u8 = 0;
-
-const F: u8 = 1;
-
-const U: u8 = 2;
-
-// The commands, named by sign, by the end that gets a marker and by the marker tested at the other end: "is" hands that marker on, "is not" puts F.
-const IS_TO_TAIL_T: Command = Command {
-    sign: 0,
-    up: true,
-    test: T,
-    put: T,
-};
-
-const IS_TO_HEAD_T: Command = Command {
-    sign: 0,
-    up: false,
-    test: T,
-    put: T,
-};
-
-const IS_TO_TAIL_F: Command = Command {
-    sign: 0,
-    up: true,
-    test: F,
-    put: F,
-};
-
-const IS_TO_HEAD_U: Command = Command {
-    sign: 0,
-    up: false,
-    test: U,
-    put: U,
-};
-
-const NOT_TO_HEAD_T: Command = Command {
-    sign: 1,
-    up: false,
-    test: T,
-    put: F,
-};
-
-const NOT_TO_TAIL_T: Command = Command {
-    sign: 1,
-    up: true,
-    test: T,
-    put: F,
-};
-
-const NOT_TO_HEAD_U: Command = Command {
-    sign: 1,
-    up: false,
-    test: U,
-    put: F,
-};
-
-const NOT_TO_TAIL_U: Command = Command {
-    sign: 1,
-    up: true,
-    test: U,
-    put: F,
-};
-
-// One round of the kind scan, or of the forward scan; whether it set a mark.
-fn round(kind: bool, n: usize, words: &[u32], marks: &mut [u8]) -> bool
-    requires inside { ⌜ Inside n (now words) ⌝ }
-    requires few { ⌜ n ≤ 1024 ⌝ }
-    requires room { ⌜ n ≤ length (now marks) ⌝ }
-    requires low { ⌜ Low n (now marks) ⌝ }
-    ensures { λ r. ⌜ now (marks .exit) ≡ round (commands kind) (now (words .entry)) (now (marks .entry)) ⌝ }
-    ensures { λ r. ⌜ Set r (now (marks .entry)) (now (marks .exit)) ⌝ }
-    ensures { λ r. ⌜ Low n (now (marks .exit)) ⌝ }
-{
-    if kind {
-        let a = run_command(IS_TO_TAIL_T, n, words, marks);
-        let b = run_command(IS_TO_HEAD_U, n, words, marks);
-        let c = run_command(IS_TO_TAIL_F, n, words, marks);
-        let d = run_command(NOT_TO_HEAD_U, n, words, marks);
-        let e = run_command(NOT_TO_TAIL_U, n, words, marks);
-        a | b | c | d | e
-    } else {
-        let a = run_command(IS_TO_HEAD_T, n, words, marks);
-        let b = run_command(IS_TO_TAIL_F, n, words, marks);
-        let c = run_command(NOT_TO_HEAD_T, n, words, marks);
-        let d = run_command(NOT_TO_TAIL_T, n, words, marks);
-        a | b | c | d
-    }
-}
-
-// Rounds until one sets nothing, within `budget` rounds.
-fn scan(kind: bool, n: usize, words: &[u32], budget: u32, marks: &mut [u8]) -> Ran
-    requires inside { ⌜ Inside n (now words) ⌝ }
-    requires few { ⌜ n ≤ 1024 ⌝ }
-    requires room { ⌜ n ≤ length (now marks) ⌝ }
-    requires low { ⌜ Low n (now marks) ⌝ }
-    ensures { λ r. ⌜ rounds (commands kind) (now (words .entry)) 0 budget (now (marks .entry)) ≡ record { done = r .done; count = r .count; marks = now (marks .exit) } ⌝ }
-    ensures { λ r. ⌜ Low n (now (marks .exit)) ⌝ }
-{
-    let mut count = 0;
-    while count < budget {
-        let changed = round(kind, n, words, marks);
-        count += 1;
-        if !changed {
-            return Ran {
-                done: true,
-                count: count,
-            };
-        }
-    }
-    Ran {
-        done: false,
-        count: count,
-    }
-}
-
-// No marks on the nodes below `n`.
-pub fn clear(n: usize, marks: &mut [u8])
-    requires { ⌜ n ≤ length (now marks) ⌝ }
-    ensures { λ _. ⌜ now (marks .exit) ≡ replicate n 0 ++ drop n (now (marks .entry)) ⌝ }
-{
-    let mut i = 0;
-    while i < n {
-        marks[i] = 0;
-        i += 1;
-    }
-}
-
-// The marks at the start `x`: T and U of the kind scan, or T of the forward scan, and no other.
-fn put_start(kind: bool, n: usize, x: usize, marks: &mut [u8])
-    requires { ⌜ (x < n) × (n ≤ length (now marks)) ⌝ }
-    ensures { λ _. ⌜ now (marks .exit) ≡ start kind n x ++ drop n (now (marks .entry)) ⌝ }
-{
-    clear(n, marks);
-    if kind {
-        marks[x] = 5;
-    } else {
-        marks[x] = 1;
-    }
 }
 
 // Rows 4, 5, 6 and 0, on a net of `n` nodes that was checked.

@@ -6,13 +6,15 @@ use mathlib.Core.Logic.{_↔_, _⊎_, inl, inr}
 use mathlib.Core.List.{List}
 use native.Mathlib.Omega.{arith}
 use native.Mathlib.Decide.{decLt}
-use borrow.Author.Tests.{leb-true, eqb-true, eq-eqb, le-leb}
 use lib.ListN.{length}
-use lib.Dec.{leb, eqb}
-use Rattle.laws.proofs.Booleans.{clash, and-left, and-right, and-both, not-so}
+use lib.Dec.{eqb}
+use Rattle.laws.proofs.Booleans.{clash, not-so}
+use Rattle.laws.proofs.Deciding.{Decides, decides-equal, decides-most, decides-both}
 use Rattle.netfile.proofs.Reading.{short, long, first-closed, second-closed, third-closed, all-open}
-use Rattle.netfile.specs.Contents.{u32At, rightLength, rightEnd, entryAt, contentsOf}
-use Rattle.netfile.specs.declared.Entry.the-variants.{Open, Closed}
+use Rattle.numbers.specs.Bytes.{u32At}
+use Rattle.entries.specs.Entries.{rightLength, rightEnd, entryAt}
+use Rattle.netfile.specs.Contents.{contentsOf}
+use Rattle.entries.specs.declared.Entry.the-variants.{Open, Closed}
 use Rattle.netfile.specs.declared.Contents.{Contents}
 use Rattle.netfile.specs.declared.Contents.the-variants.{Bodies, Malformed}
 
@@ -56,20 +58,7 @@ pub data Outcome (s : List ℕ) (r : Contents) : Type 0 where
 
 -- ── tests and what they mean ──
 
--- A test of P.
-abbrev Tests : Bool → Type 0 → Type 0
-Tests b P = b ≡ true ↔ P
-
-both : {P Q : Type 0} (p q : Bool) → Tests p P → Tests q Q → Tests (p && q) (P × Q)
-both p q f g = (λ e. (f .0 (and-left p q e), g .0 (and-right p q e)), λ h. and-both p q (f .1 (h .0)) (g .1 (h .1)))
-
-equal : (a b : ℕ) → Tests (eqb a b) (a ≡ b)
-equal a b = (eqb-true a b, eq-eqb a b)
-
-inside : (a b : ℕ) → Tests (leb a b) (a ≤ b)
-inside a b = (leb-true a b, le-leb a b)
-
-either : {P : Type 0} (b : Bool) → Tests b P → P ⊎ (P → ⊥)
+either : {P : Type 0} (b : Bool) → Decides b P → P ⊎ (P → ⊥)
 either true t = inl (t .0 refl)
 either false t = inr (λ h. clash (t .1 h))
 
@@ -77,7 +66,7 @@ either false t = inr (λ h. clash (t .1 h))
 abbrev passes : List ℕ → ℕ → ℕ → Bool
 passes s n from = eqb (u32At s (n * 8)) from && (rightLength n (u32At s (n * 8 + 4)) && rightEnd n (from + u32At s (n * 8 + 4)) (length s))
 
-module _ (s : List ℕ) (n from : ℕ) {P : Type 0} (t : Tests (passes s n from) P) where
+module _ (s : List ℕ) (n from : ℕ) {P : Type 0} (t : Decides (passes s n from) P) where
   open-entry : P → entryAt s n from ≡ Open from (from + u32At s (n * 8 + 4))
   unfolding entryAt
   open-entry h = rw (t .1 h)
@@ -87,18 +76,18 @@ module _ (s : List ℕ) (n from : ℕ) {P : Type 0} (t : Tests (passes s n from)
   closed-entry h = rw (not-so (passes s n from) (λ e. h (t .0 e)))
 
 module _ (s : List ℕ) where
-  first : Tests (passes s 0 24) (First s)
-  first = both (eqb (u32At s 0) 24) _ (equal (u32At s 0) 24) (both (eqb (u32At s 4) 8) _ (equal (u32At s 4) 8) (inside (wordsStart s) (length s)))
+  first : Decides (passes s 0 24) (First s)
+  first = decides-both (eqb (u32At s 0) 24) _ (decides-equal (u32At s 0) 24) (decides-both (eqb (u32At s 4) 8) _ (decides-equal (u32At s 4) 8) (decides-most (wordsStart s) (length s)))
 
-  second : Tests (passes s 1 (wordsStart s)) (Second s)
+  second : Decides (passes s 1 (wordsStart s)) (Second s)
   second =
-      both (eqb (u32At s 8) (wordsStart s)) _ (equal (u32At s 8) (wordsStart s))
-      (both (eqb (u32At s 12 % 4) 0) _ (equal (u32At s 12 % 4) 0) (inside (questionsStart s) (length s)))
+      decides-both (eqb (u32At s 8) (wordsStart s)) _ (decides-equal (u32At s 8) (wordsStart s))
+      (decides-both (eqb (u32At s 12 % 4) 0) _ (decides-equal (u32At s 12 % 4) 0) (decides-most (questionsStart s) (length s)))
 
-  third : Tests (passes s 2 (questionsStart s)) (Third s)
+  third : Decides (passes s 2 (questionsStart s)) (Third s)
   third =
-      both (eqb (u32At s 16) (questionsStart s)) _ (equal (u32At s 16) (questionsStart s))
-      (both (eqb (u32At s 20 % 4) 0) _ (equal (u32At s 20 % 4) 0) (equal (questionsEnd s) (length s)))
+      decides-both (eqb (u32At s 16) (questionsStart s)) _ (decides-equal (u32At s 16) (questionsStart s))
+      (decides-both (eqb (u32At s 20 % 4) 0) _ (decides-equal (u32At s 20 % 4) 0) (decides-equal (questionsEnd s) (length s)))
 
   sizes : Sized s ⊎ Missized s
   sizes = at (decLt (length s) 24) (decLt 32768 (length s))

@@ -1,8 +1,11 @@
--- The paper's row tells which answer of the reader it is.
+-- The paper's row tells which answer of the reader it is, and which of an entry; a closed entry's row is the reader's.
 use Prim.Native.Nat.{ℕ, zero, suc}
 use mathlib.Core.Path.{_≡_, refl, sym, ap, _∙_}
+use mathlib.Core.List.{List}
 use Rattle.words.specs.Table.{Row}
-use Rattle.netfile.specs.Contents.{contentsRow}
+use Rattle.entries.specs.declared.Entry.{Entry}
+use Rattle.entries.specs.declared.Entry.the-variants.{Open, Closed}
+use Rattle.netfile.specs.Contents.{contentsRow, entryRow, withFirst, withSecond, withThird}
 use Rattle.netfile.specs.declared.Contents.{Contents}
 use Rattle.netfile.specs.declared.Contents.the-variants.{Bodies, Malformed}
 
@@ -21,3 +24,29 @@ contents-at-row (Malformed place) = refl
 -- No two answers of the reader have one row.
 pub contents-row-one-to-one : (c d : Contents) → contentsRow c ≡ contentsRow d → c ≡ d
 contents-row-one-to-one c d e = sym (contents-at-row c) ∙ ap contentsAt e ∙ contents-at-row d
+
+-- The entry of a number and two values.
+abbrev entryOfRow : ℕ → ℕ → ℕ → Entry
+entryOfRow zero a e = Open a e
+entryOfRow (suc n) a e = Closed
+
+abbrev entryAtRow : Row → Entry
+entryAtRow r = entryOfRow (r .number) (r .first) (r .second)
+
+entry-at-row : (n : ℕ) (c : Entry) → entryAtRow (entryRow n c) ≡ c
+entry-at-row n (Open a e) = refl
+entry-at-row n Closed = refl
+
+-- No two answers of an entry have one row.
+pub entry-row-one-to-one : (n : ℕ) (c d : Entry) → entryRow n c ≡ entryRow n d → c ≡ d
+entry-row-one-to-one n c d e = sym (entry-at-row n c) ∙ ap entryAtRow e ∙ entry-at-row n d
+
+-- An entry that cannot be opened ends the reading with its own row.
+pub first-row : (s : List ℕ) → contentsRow (withFirst s Closed) ≡ entryRow 0 Closed
+first-row s = refl
+
+pub second-row : (s : List ℕ) → contentsRow (withSecond s Closed) ≡ entryRow 1 Closed
+second-row s = refl
+
+pub third-row : contentsRow (withThird Closed) ≡ entryRow 2 Closed
+third-row = refl

@@ -8,9 +8,13 @@ use Rattle.theory.specs.Scans.{same, rounds}
 use Rattle.words.specs.Legal.{legalPrefix}
 use Rattle.words.specs.Table.{checkNet}
 use Rattle.answers.specs.Table.{questionNet, questionChecked}
-use Rattle.netfile.specs.Contents.{entryAt, contentsOf, u32s}
-use Rattle.lines.specs.Line.{digits, lineOf}
-use Rattle.text.specs.Text.{linesOf, netText, fileText, textOf}
+use Rattle.entries.specs.Entries.{entryAt}
+use Rattle.netfile.specs.Contents.{contentsOf}
+use Rattle.numbers.specs.Bytes.{u32s}
+use Rattle.fields.specs.Decimal.{digits}
+use Rattle.lines.specs.Line.{lineOf}
+use Rattle.replies.specs.Replies.{linesOf, netText}
+use Rattle.text.specs.Text.{fileText, textOf}
 
 -- Contents, nodes, words and questions.
 abbrev pub fileM : List ℕ

@@ -1,6 +1,6 @@
 -- Demand 1: what each operation's statement says is what its number table says, read from the top.
 use Prim.Native.Nat.{ℕ, _+_, _-_, _%_}
-use mathlib.Core.Path.{_≡_, refl, ap}
+use mathlib.Core.Path.{_≡_, refl, ap, _∙_}
 use mathlib.Core.Bool.{Bool, true, false, cond, not, _&&_, _||_}
 use mathlib.Core.List.{List, [], _∷_, _++_}
 use lib.Dec.{ltb, leb, eqb}
@@ -18,23 +18,27 @@ use Rattle.words.specs.declared.Refusal.the-variants.{TooManyNodes, TooManyWord
 use Rattle.words.specs.declared.Checked.{Checked}
 use Rattle.words.specs.declared.Checked.the-variants as checked
 use Rattle.machine.specs.Scanning.{outcome, ran, scanNet, scanChecked, forwardScanned, kindScanned}
+use Rattle.starts.specs.Starts.{cleared}
 use Rattle.machine.specs.declared.Scanned.the-variants as scanned
 use Rattle.answers.specs.declared.Asked.the-variants as asked
-use Rattle.answers.specs.Table.{question, questionNet, questionChecked, questioned, clash, cleared, clashNodes, firstClash, clashedRow, clashNet, clashChecked, clashedBy}
-use Rattle.answers.specs.declared.Clashed.{Clashed}
-use Rattle.answers.specs.declared.Clashed.the-variants as clashed
+use Rattle.answers.specs.Table.{question, questionNet, questionChecked, questioned}
+use Rattle.clashes.specs.Table.{clash, clashNodes, firstClash, clashedRow, clashNet, clashChecked, clashedBy}
+use Rattle.clashes.specs.declared.Clashed.{Clashed}
+use Rattle.clashes.specs.declared.Clashed.the-variants as clashed
 use Rattle.completion.specs.Table.{completionNet, completionChecked, completedBy, completion}
 use Rattle.completion.specs.declared.Completed.the-variants as completed
 use Rattle.reasons.specs.Table.{reasonNet, reasonChecked, reasoned, reason}
 use Rattle.reasons.specs.declared.Reasoned.the-variants as reasonedAs
 use Rattle.checks.specs.Table.{verdictNet, verdictChecked, verdict}
 use Rattle.checks.specs.declared.Verdict.the-variants as verdictAs
-use Rattle.netfile.specs.Contents.{u32At, fileLimit, entryAt, contentsOf, bodiesOf, withFirst, withSecond, withThird}
-use Rattle.netfile.specs.declared.Entry.the-variants.{Open, Closed}
+use Rattle.numbers.specs.Bytes.{u32At}
+use Rattle.netfile.specs.Contents.{contentsOf, bodiesOf, withFirst, withSecond, withThird}
+use Rattle.entries.specs.Entries.{entryAt}
+use Rattle.entries.specs.declared.Entry.the-variants.{Open, Closed}
 use Rattle.netfile.specs.declared.Contents.{Contents}
 use Rattle.netfile.specs.declared.Contents.the-variants.{Bodies, Malformed}
 use Rattle.promises.specs.Tables.{call}
-use Rattle.promises.specs.Calls.{forwardTable, forwardDone, kindTable, kindDone, questionTable, questionDone, clashTable, clashDone, completionTable, completionDone, reasonTable, reasonDone, checkTable, checkDone, Reading, reading, readFrom, wordsAt, questionsAt, fileTable, fileDone}
+use Rattle.promises.specs.Calls.{netTable, netDone, forwardTable, forwardDone, kindTable, kindDone, questionTable, questionDone, clashTable, clashDone, completionTable, completionDone, reasonTable, reasonDone, checkTable, checkDone, Reading, reading, readFrom, wordsAt, questionsAt, missized, firstWrong, secondWrong, thirdWrong, fileTable, fileDone}
 
 -- A call on a net: refused by line 1, 2 or 3 as the check of the net is, and otherwise as on its nodes.
 module _ {A : Type 0} (f : Checked → A) (refused : Refusal → A) (passes-on : (r : Refusal) → f (checked.Refused r) ≡ refused r) (o k : ℕ) (ws : List ℕ) where
@@ -83,6 +87,10 @@ after-two : {A : Type 0} (a b : Bool) (u v : A) {r q : A} → r ≡ q → cond a
 after-two a b u v e = rw e
 
 module _ (o k : ℕ) (ws : List ℕ) where
+  -- The check of a net.
+  pub net-called : checkNet o k ws ≡ call (netTable o k ws) (netDone o k ws)
+  net-called = on-net (λ r. r) checked.Refused (λ r. refl) o k ws refl
+
   -- The forward scan.
   pub forward-called : (x budget : ℕ) (m : List ℕ) → forwardScanned o k ws x budget m ≡ call (forwardTable o k ws x budget m) (forwardDone o k ws x budget m)
   unfolding scanChecked scanNet
@@ -154,11 +162,26 @@ module _ (s : List ℕ) where
   size-read true c e = refl
   size-read false c e = e
 
-  -- The file reader.
-  pub file-called : readFrom s ≡ call (fileTable s) (fileDone s)
+  -- The reader, test by test.
+  tests-read : readFrom s
+      ≡ cond (missized s) (malformed 3) (cond (firstWrong s) (malformed 0) (cond (secondWrong s) (malformed 1) (cond (thirdWrong s) (malformed 2) (fileDone s))))
   unfolding contentsOf entryAt
-  file-called =
-      size-read (ltb (length s) 24 || ltb fileLimit (length s)) (withFirst s (entryAt s 0 24))
+  tests-read =
+      size-read (missized s) (withFirst s (entryAt s 0 24))
       (first-read 24 (wordsAt s) (eqb (u32At s 0) 24 && (eqb (u32At s 4) 8 && leb (wordsAt s) (length s)))
       (second-read (wordsAt s) (questionsAt s) (eqb (u32At s 8) (wordsAt s) && (eqb (u32At s 12 % 4) 0 && leb (questionsAt s) (length s)))
       (third-read (questionsAt s) (questionsAt s + u32At s 20) (eqb (u32At s 16) (questionsAt s) && (eqb (u32At s 20 % 4) 0 && eqb (questionsAt s + u32At s 20) (length s))))))
+
+  -- The four tests are one line, which gives the place of the first that holds.
+  one-line : (a b c d : Bool) (r : Reading)
+      → cond a (malformed 3) (cond b (malformed 0) (cond c (malformed 1) (cond d (malformed 2) r)))
+      ≡ cond (a || (b || (c || d))) (malformed (cond a 3 (cond b 0 (cond c 1 2)))) r
+  one-line true b c d r = refl
+  one-line false true c d r = refl
+  one-line false false true d r = refl
+  one-line false false false true r = refl
+  one-line false false false false r = refl
+
+  -- The file reader.
+  pub file-called : readFrom s ≡ call (fileTable s) (fileDone s)
+  file-called = tests-read ∙ one-line (missized s) (firstWrong s) (secondWrong s) (thirdWrong s) (fileDone s)

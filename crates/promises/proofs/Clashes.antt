@@ -7,7 +7,7 @@ use mathlib.Core.Logic.{_↔_}
 use native.Mathlib.Omega.{arith}
 use native.Mathlib.Decide.{decLt, ℕ-discrete}
 use lib.Dec.{eqb, ltb}
-use lib.ListN.{getD}
+use lib.ListN.{length, getD}
 use borrow.Author.Tests.{ltb-true, ltb-false}
 use Rattle.laws.proofs.Booleans.{clash as contradiction, and-left, and-right, and-both}
 use Rattle.theory.specs.Words.{is, isnt}
@@ -15,11 +15,18 @@ use Rattle.theory.specs.Nets.{Kind, Net}
 use Rattle.theory.specs.Marks.{T, F, has}
 use Rattle.theory.specs.Completion.{fullMarks}
 use Rattle.theory.proofs.Completing.{full-exact}
-use Rattle.answers.specs.Table.{firstBoth, clashNodes, firstClash, clashedRow}
-use Rattle.answers.specs.declared.Clashed.{Clashed}
-use Rattle.answers.specs.declared.Clashed.the-variants.{At, Nowhere}
+use Rattle.words.specs.Table.{checkNet}
+use Rattle.words.specs.declared.Refusal.the-variants.{ShortBuffer}
+use Rattle.words.specs.declared.Checked.{Checked}
+use Rattle.words.specs.declared.Checked.the-variants as checked
+use Rattle.words.proofs.NetCheck.{check-is-net}
+use Rattle.starts.specs.Starts.{cleared}
+use Rattle.clashes.specs.Table.{clash, firstBoth, clashNodes, firstClash, clashNet, clashChecked, clashedBy, clashedRow}
+use Rattle.clashes.specs.declared.Clashed.{Clashed}
+use Rattle.clashes.specs.declared.Clashed.the-variants.{At, Nowhere, Refused}
 use Rattle.promises.specs.Calls.{noClash}
-use Rattle.promises.specs.Clashing.{ClashAt, SmallestClash}
+use Rattle.promises.specs.Engines.{ours}
+use Rattle.promises.specs.Clashing.{ClashAt, SmallestClash, Clashing}
 
 -- Both marks at y.
 abbrev both : List ℕ → ℕ → Bool
@@ -176,3 +183,33 @@ module _ (o k : ℕ) (ws : List ℕ) where
         back : Found 0 o (firstClash o k ws 0 o) → ((x y : ℕ) → ClashAt o k ws x y → ⊥) → noClash o k ws ≡ true
         back (somewhere u v f l h w b) n = absurd (n u v (war-smallest u v (omega arith) w b .clash))
         back (nowhere f b) n = ap (λ (c : Clashed). eqb (clashedRow c .number) 7) f
+
+-- Whether an answer is a refusal.
+abbrev refuses : Clashed → Bool
+refuses (At x y) = false
+refuses Nowhere = false
+refuses (Refused r) = true
+
+-- An answer that is no refusal is what the search over a net came to.
+searched : (o k : ℕ) (ws m : List ℕ) (c : Clashed) → refuses c ≡ false → clashedBy o k ws m .answer ≡ c
+    → Net o k ws × (firstClash o k ws 0 (clashNodes o k) ≡ c)
+unfolding clashChecked clashNet
+searched o k ws m c h e = at (checkNet o k ws) refl e
+  where
+    past : (q : Bool) (l : List ℕ) → cond q (clash (Refused ShortBuffer) m) (clash (firstClash o k ws 0 (clashNodes o k)) l) .answer ≡ c
+        → firstClash o k ws 0 (clashNodes o k) ≡ c
+    past true l f = contradiction (sym h ∙ sym (ap refuses f))
+    past false l f = f
+
+    at : (r : Checked) → checkNet o k ws ≡ r → clashChecked o k ws m r .answer ≡ c → Net o k ws × (firstClash o k ws 0 (clashNodes o k) ≡ c)
+    at (checked.Nodes n) p f = (check-is-net o k ws n p .1, past (ltb (length m) n) (cleared n m) f)
+    at (checked.Refused r) p f = contradiction (sym h ∙ sym (ap refuses f))
+
+-- Our engine keeps what is promised of the clash test.
+pub clashing : Clashing ours
+clashing = record {
+  at = λ o k ws m x y e. let (net, f) = searched o k ws m (At x y) refl e in clash-exactly o k ws net x y .0 f;
+  nowhere = λ o k ws m e.
+      let (net, f) = searched o k ws m Nowhere refl e in
+      no-clash-exactly o k ws net .0 (ap (λ (c : Clashed). eqb (clashedRow c .number) 7) f);
+}

@@ -10,20 +10,22 @@ use Rattle.laws.proofs.Booleans.{clash as contradiction}
 use Rattle.theory.specs.Words.{signAt}
 use Rattle.theory.specs.Completion.{fullMarks}
 use Rattle.theory.specs.Checks.{passes}
+use Rattle.words.specs.Table.{checkNet}
 use Rattle.machine.specs.Scanning.{forwardScanned, kindScanned}
-use Rattle.answers.specs.Table.{questioned, firstBoth, firstClash, clashNodes, clashedRow, clashedBy}
-use Rattle.answers.specs.declared.Clashed.the-variants as clashed
+use Rattle.answers.specs.Table.{questioned}
+use Rattle.clashes.specs.Table.{firstBoth, firstClash, clashNodes, clashedRow, clashedBy}
+use Rattle.clashes.specs.declared.Clashed.the-variants as clashed
 use Rattle.completion.specs.Table.{completedBy}
 use Rattle.reasons.specs.Table.{reasoned}
 use Rattle.checks.specs.Table.{verdict}
 use Rattle.checks.specs.declared.Verdict.the-variants.{Holds, Fails}
 use Rattle.promises.specs.Tables.{Obeys}
-use Rattle.promises.specs.Calls.{forwardTable, forwardDone, kindTable, kindDone, questionTable, questionDone, noClash, clashTable, clashDone, completionTable, completionDone, reasonTable, reasonDone, checkTable, checkDone, readFrom, fileTable, fileDone}
-use Rattle.promises.specs.Numbers.{scanNumber, questionNumber, clashNumber, completionNumber, reasonNumber, verdictNumber, readingNumber}
+use Rattle.promises.specs.Calls.{netTable, netDone, forwardTable, forwardDone, kindTable, kindDone, questionTable, questionDone, noClash, clashTable, clashDone, completionTable, completionDone, reasonTable, reasonDone, checkTable, checkDone, readFrom, fileTable, fileDone}
+use Rattle.promises.specs.Numbers.{checkedNumber, scanNumber, questionNumber, clashNumber, completionNumber, reasonNumber, verdictNumber, readingNumber}
 use Rattle.promises.specs.Engines.{ours}
 use Rattle.promises.specs.Demand1.{Demand1}
 use Rattle.promises.proofs.Deciding.{obeys}
-use Rattle.promises.proofs.Called.{forward-called, kind-called, question-called, clash-called, completion-called, reason-called, check-called, file-called}
+use Rattle.promises.proofs.Called.{net-called, forward-called, kind-called, question-called, clash-called, completion-called, reason-called, check-called, file-called}
 
 -- A search for a clash ends with 0 or with 7.
 clash-or-none : (o k : ℕ) (ws : List ℕ) (x j : ℕ) → (clashedRow (firstClash o k ws x j) .number ≡ 0) ⊎ (clashedRow (firstClash o k ws x j) .number ≡ 7)
@@ -51,7 +53,13 @@ verdict-done true = refl
 verdict-done false = refl
 
 module _ (o k : ℕ) (ws : List ℕ) where
-  -- The forward scan obeys its table: numbers 1 to 6, or 0.
+  -- The check of a net obeys its table: numbers 1 to 3, or 0.
+  pub net-obeys : Obeys checkedNumber (netTable o k ws) (netDone o k ws) (checkNet o k ws)
+  net-obeys =
+      obeys checkedNumber _ _ (record { numbered = (refl, (refl, (refl, tt))); once = refl; nonzero = refl; zero = λ h. refl }) _
+      (net-called o k ws)
+
+  -- The forward scan: numbers 1 to 6, or 0.
   pub forward-obeys : (x budget : ℕ) (m : List ℕ) → Obeys scanNumber (forwardTable o k ws x budget m) (forwardDone o k ws x budget m) (forwardScanned o k ws x budget m)
   forward-obeys x budget m =
       obeys scanNumber _ _ (record { numbered = (refl, (refl, (refl, (refl, (refl, (refl, tt)))))); once = refl; nonzero = refl; zero = λ h. refl }) _
@@ -93,15 +101,16 @@ module _ (o k : ℕ) (ws : List ℕ) where
       obeys verdictNumber _ _ (record { numbered = (refl, (refl, (refl, (refl, tt)))); once = refl; nonzero = refl; zero = λ h. verdict-done (passes o k ws x y (signAt sign) l) }) _
       (check-called o k ws x y sign l)
 
--- The file reader: 9 at one of four places, or 0.
+-- The file reader: 9, or 0.
 pub file-obeys : (s : List ℕ) → Obeys readingNumber (fileTable s) (fileDone s) (readFrom s)
 file-obeys s =
-    obeys readingNumber _ _ (record { numbered = (refl, (refl, (refl, (refl, tt)))); once = refl; nonzero = refl; zero = λ h. refl }) _
+    obeys readingNumber _ _ (record { numbered = (refl, tt); once = refl; nonzero = refl; zero = λ h. refl }) _
     (file-called s)
 
 -- Our engine keeps demand 1.
 pub demand-1 : Demand1 ours
 demand-1 = record {
+  netCheck = net-obeys;
   forwardScan = forward-obeys;
   kindScan = kind-obeys;
   question = question-obeys;

@@ -9,7 +9,7 @@ use lib.ListN.{getD}
 use Rattle.theory.specs.Words.{Sign, is, isnt}
 use Rattle.theory.specs.Nets.{Statements, Kind, Links}
 use Rattle.theory.specs.Support.{Supported}
-use Rattle.theory.specs.Marks.{T, F, U, has, forward, forwardStart}
+use Rattle.theory.specs.Marks.{T, F, U, has, forward, forwardStart, markerOf, At}
 use Rattle.theory.specs.Scans.{rounds, Count, forwardScan, kindScan}
 use Rattle.theory.specs.declared.Command.{Command}
 use Rattle.theory.proofs.Budgets.{last-round, count-unique}
@@ -21,15 +21,15 @@ use Rattle.answers.specs.declared.Answer.{Answer}
 use Rattle.answers.specs.declared.Answer.the-variants.{None, Yes, No, Both}
 use Rattle.answers.specs.declared.Asked.the-variants as asked
 use Rattle.promises.specs.Engines.{Engine, ours}
-use Rattle.promises.specs.Demand2.{Smallest, says, markOf, Marked, Demand2}
+use Rattle.promises.specs.Demand2.{Smallest, says, Demand2}
 use Rattle.promises.proofs.SmallestSet.{smallest-is-supported}
 use Rattle.promises.proofs.Answered.{Ran, forward-ended, forward-was-spent, kind-ended, kind-was-spent, Answered, question-answered}
 
 -- A byte's answer says what its marks are.
-pub answer-says : (b : ℕ) (s : Sign) → says (answerAt b) s ≡ has (markOf s) b
+pub answer-says : (b : ℕ) (s : Sign) → says (answerAt b) s ≡ has (markerOf s) b
 answer-says b s = at (has T b) (has F b) refl refl s
   where
-    at : (t f : Bool) → has T b ≡ t → has F b ≡ f → (s : Sign) → says (cond t (cond f Both Yes) (cond f No None)) s ≡ has (markOf s) b
+    at : (t f : Bool) → has T b ≡ t → has F b ≡ f → (s : Sign) → says (cond t (cond f Both Yes) (cond f No None)) s ≡ has (markerOf s) b
     at true true p q is = sym p
     at true true p q isnt = sym q
     at true false p q is = sym p
@@ -81,7 +81,7 @@ demand-2 = record {
   questionRounds = question-rounds;
   forwardScan = λ o k ws x budget m count e y h s.
       let r = forward-ended o k ws x budget m count e in
-      byte-exact (markOf s) (r .left y (h .high)) (forward-exact o k ws (r .net .legal) x (r .from) budget (r .ended) y h s);
+      byte-exact (markerOf s) (r .left y (h .high)) (forward-exact o k ws (r .net .legal) x (r .from) budget (r .ended) y h s);
   forwardRounds = λ o k ws x budget m count e.
       let r = forward-ended o k ws x budget m count e in
       rounds-of o k ws (2 * (o + k)) r (forward-counted o k ws (r .net .legal) x (r .from));
@@ -90,7 +90,7 @@ demand-2 = record {
       forward-spent o k ws (r .net .legal) x (r .from) budget (r .ended) y h s (rw (r .left y (h .high)) at p);
   kindScan = λ o k ws y budget m count e x h s.
       let r = kind-ended o k ws y budget m count e in
-      byte-exact (markOf s) (r .left x h) (kind-exact o k ws (r .net .legal) y (r .from) budget (r .ended) x s);
+      byte-exact (markerOf s) (r .left x h) (kind-exact o k ws (r .net .legal) y (r .from) budget (r .ended) x s);
   kindScanUp = λ o k ws y budget m count e z h.
       let r = kind-ended o k ws y budget m count e in
       byte-exact U (r .left z h) (kind-exact-up o k ws (r .net .legal) y (r .from) budget (r .ended) z);
@@ -116,7 +116,7 @@ in-smallest e d o k ws x y m a count h P p s =
 -- The two sides agree, of any engine that keeps demand 2: y's mark from the subject x is x's mark from the kind y.
 pub sides : (e : Engine) → Demand2 e → (o k : ℕ) (ws : List ℕ) (x y b c : ℕ) (m l : List ℕ) (i j : ℕ) → e .forwardScan o k ws x b m .answer ≡ scanned.Done i
     → e .kindScan o k ws y c l .answer ≡ scanned.Done j → x < o + k → Kind o k y → (s : Sign)
-    → Marked (e .forwardScan o k ws x b m .marks) (markOf s) y ↔ Marked (e .kindScan o k ws y c l .marks) (markOf s) x
+    → At (e .forwardScan o k ws x b m .marks) (markerOf s) y ↔ At (e .kindScan o k ws y c l .marks) (markerOf s) x
 sides e d o k ws x y b c m l i j p q h g s =
     let f = d .forwardScan o k ws x b m i p y g s in
     let t = d .kindScan o k ws y c l j q x h s in

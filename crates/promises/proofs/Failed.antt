@@ -3,6 +3,7 @@ use mathlib.Core.Path.{_≡_, refl, sym, ap, _∙_}
 use mathlib.Core.List.{[], _∷_}
 use native.Mathlib.Omega.{arith}
 use lib.ListN.{getD}
+use Rattle.theory.specs.NetM.{M}
 use Rattle.laws.proofs.Booleans.{clash}
 use Rattle.theory.specs.Words.{is, isnt}
 use Rattle.theory.specs.Marks.{F, has, mark, link, links, command, round, blank}
@@ -12,12 +13,12 @@ use Rattle.words.specs.Legal.{legalPrefix}
 use Rattle.words.specs.Table.{checkNet}
 use Rattle.machine.specs.Scanning.{Outcome}
 use Rattle.machine.specs.declared.Scanned.the-variants as scanned
-use Rattle.answers.specs.Table.{questioned, questionNet, questionChecked, firstBoth, firstClash}
+use Rattle.answers.specs.Table.{questioned, questionNet, questionChecked}
+use Rattle.clashes.specs.Table.{firstBoth, firstClash}
 use Rattle.answers.specs.declared.Answer.the-variants.{None, Yes}
 use Rattle.answers.specs.declared.Asked.the-variants as asked
 use Rattle.promises.specs.Demand2.{Demand2}
 use Rattle.promises.specs.Failed.{neverBack, classical, neverUp}
-use Rattle.promises.specs.Readings.{M}
 use Rattle.promises.proofs.Demand2.{demand-2}
 
 -- Net M, question (0, 4): following arrows forward only, it answers none.

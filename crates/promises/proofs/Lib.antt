@@ -10,6 +10,7 @@ pub mod Demand2
 pub mod Objects
 pub mod Orders
 pub mod Reasoning
+pub mod Reordered
 pub mod NetAnswers
 pub mod Demand3
 pub mod Uniqueness

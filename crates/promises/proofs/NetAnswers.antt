@@ -10,7 +10,7 @@ use borrow.Author.Tests.{ltb-false, le-ltb, lt-leb, leb-false}
 use Rattle.laws.proofs.Booleans.{or-none-left, or-none-right}
 use Rattle.theory.specs.Words.{Sign, is, isnt}
 use Rattle.theory.specs.Nets.{Kind, Net}
-use Rattle.theory.specs.Marks.{has, blank}
+use Rattle.theory.specs.Marks.{has, blank, markerOf}
 use Rattle.theory.specs.Scans.{forwardScan}
 use Rattle.theory.specs.Completion.{fullMarks}
 use Rattle.theory.proofs.Demand3.{SameAnswer}
@@ -21,7 +21,7 @@ use Rattle.answers.specs.Table.{question, questioned, questionNet, questionChec
 use Rattle.answers.specs.declared.Answer.{Answer}
 use Rattle.answers.specs.declared.Asked.{Asked}
 use Rattle.answers.specs.declared.Asked.the-variants as asked
-use Rattle.promises.specs.Demand2.{says, markOf}
+use Rattle.promises.specs.Demand2.{says}
 use Rattle.promises.specs.Demand3.{wordOf, saidBy}
 use Rattle.promises.proofs.Demand2.{answer-says}
 
@@ -30,10 +30,10 @@ abbrev byte : ℕ → ℕ → List ℕ → ℕ → ℕ → ℕ
 byte o k ws x y = getD (fullMarks o k ws x) y 0
 
 -- Bytes with the same two marks give the same answer, and the other way round.
-same-answer : (b c : ℕ) → ((s : Sign) → has (markOf s) b ≡ has (markOf s) c) → answerAt b ≡ answerAt c
+same-answer : (b c : ℕ) → ((s : Sign) → has (markerOf s) b ≡ has (markerOf s) c) → answerAt b ≡ answerAt c
 same-answer b c e = rw (e is, e isnt)
 
-answer-same : (b c : ℕ) → answerAt b ≡ answerAt c → (s : Sign) → has (markOf s) b ≡ has (markOf s) c
+answer-same : (b c : ℕ) → answerAt b ≡ answerAt c → (s : Sign) → has (markerOf s) b ≡ has (markerOf s) c
 answer-same b c e s = sym (answer-says b s) ∙ ap (λ (a : Answer). says a s) e ∙ answer-says c s
 
 module _ (o k x y : ℕ) where
@@ -81,7 +81,7 @@ module _ (o k x y : ℕ) where
 
     -- A yes or a no that a byte gives and another keeps.
     pub keeps-said : (ws vs : List ℕ) → Net o k ws → Net o k vs → (s : Sign)
-        → (x < o + k → Kind o k y → has (markOf s) (byte o k ws x y) ≡ true → has (markOf s) (byte o k vs x y) ≡ true)
+        → (x < o + k → Kind o k y → has (markerOf s) (byte o k ws x y) ≡ true → has (markerOf s) (byte o k vs x y) ≡ true)
         → saidBy (questioned o k ws x y m .answer) s ≡ true → saidBy (questioned o k vs x y m .answer) s ≡ true
     keeps-said ws vs n r s f = rw (net-answer ws n, net-answer vs r) (at (badPair o (o + k) x y) (ltb (length m) (o + k)) refl)
       where

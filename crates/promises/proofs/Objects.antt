@@ -7,7 +7,7 @@ use native.Mathlib.Omega.{arith}
 use Rattle.theory.specs.Words.{Sign, is}
 use Rattle.theory.specs.Nets.{Links, LegalWords}
 use Rattle.theory.specs.Support.{Supported}
-use Rattle.theory.specs.Marks.{mark, link, links, command, round, blank}
+use Rattle.theory.specs.Marks.{mark, link, links, command, round, blank, markerOf, At}
 use Rattle.theory.specs.Scans.{same, rounds}
 use Rattle.theory.proofs.Inside.{legal-links}
 use Rattle.theory.proofs.Joining.{ends}
@@ -15,7 +15,6 @@ use Rattle.words.specs.Legal.{legalPrefix}
 use Rattle.words.specs.Table.{checkNet}
 use Rattle.machine.specs.Scanning.{Outcome, forwardScanned, scanNet, scanChecked}
 use Rattle.machine.specs.declared.Scanned.the-variants as scanned
-use Rattle.promises.specs.Demand2.{markOf, Marked}
 
 -- One object, one kind, no words: the scan from the object leaves T on it.
 on-itself : forwardScanned 1 1 [] 0 1 (blank 2) ≡ record { answer = scanned.Done 1; marks = 1 ∷ 0 ∷ [] }
@@ -31,6 +30,6 @@ not-itself p = let e = ends 1 1 (Links []) (legal-links 1 1 [] no-words) 0 0 is 
 
 -- So the forward scan's bytes are not exact at every node.
 pub objects-say-nothing : ((o k : ℕ) (ws : List ℕ) (x budget : ℕ) (m : List ℕ) (count : ℕ) → forwardScanned o k ws x budget m .answer ≡ scanned.Done count
-    → (y : ℕ) → y < o + k → (s : Sign) → Marked (forwardScanned o k ws x budget m .marks) (markOf s) y ↔ Supported o k (Links ws) x y s) → ⊥
+    → (y : ℕ) → y < o + k → (s : Sign) → At (forwardScanned o k ws x budget m .marks) (markerOf s) y ↔ Supported o k (Links ws) x y s) → ⊥
 objects-say-nothing f =
     not-itself (f 1 1 [] 0 1 (blank 2) 1 (ap (λ (r : Outcome). r .answer) on-itself) 0 (omega arith) is .0 (rw on-itself refl))

@@ -1,4 +1,5 @@
--- Links stand in any order and a repeated word counts once: over two nets with the same words every call on the one does what it does on the other.
+-- Links stand in any order and a repeated word counts once: over two nets with the same words each scan and each question does the same.
+-- The completion, the clash test, the reason and the reason check stand in `Reordered`.
 use Prim.Native.Nat.{ℕ, _+_, _*_, _<_}
 use mathlib.Core.Path.{_≡_, refl, ap}
 use mathlib.Core.Bool.{Bool, true, false, cond}
@@ -19,14 +20,15 @@ use Rattle.words.proofs.NetCheck.{net-is-checked}
 use Rattle.machine.specs.Scanning.{ran, badStart, scanNet, scanChecked, forwardScanned, kindScanned}
 use Rattle.answers.specs.Table.{questioned, readAt, questionNet, questionChecked}
 
--- The same after two tests of which the first says that x is a node.
-after-tests : {A : Type 0} (a b : Bool) (u v : A) {r q : A} → (a ≡ false → r ≡ q) → cond a u (cond b v r) ≡ cond a u (cond b v q)
+-- The same after two tests, where it is the same if the first does not apply.
+pub after-tests : {A : Type 0} (a b : Bool) (u v : A) {r q : A} → (a ≡ false → r ≡ q) → cond a u (cond b v r) ≡ cond a u (cond b v q)
 after-tests true b u v e = refl
 after-tests false true u v e = refl
 after-tests false false u v e = e refl
 
 module _ (o k : ℕ) (ws vs : List ℕ) (n : Net o k ws) (p : Net o k vs) (to : Among ws vs) (from : Among vs ws) where
-  forward-same : (x budget : ℕ) → x < o + k → rounds forward ws 0 budget (forwardStart (o + k) x) ≡ rounds forward vs 0 budget (forwardStart (o + k) x)
+  -- The rounds of a forward scan and of a kind scan.
+  pub forward-same : (x budget : ℕ) → x < o + k → rounds forward ws 0 budget (forwardStart (o + k) x) ≡ rounds forward vs 0 budget (forwardStart (o + k) x)
   forward-same x budget h =
       rounds-order (o + k) ws vs (legal-inside o k ws (n .legal)) (legal-inside o k vs (p .legal)) to from forward forward-puts-8 budget 0 (forwardStart (o + k) x)
       (omega (arith, forward-long (o + k) x h))

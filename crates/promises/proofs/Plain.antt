@@ -14,7 +14,7 @@ use Rattle.theory.specs.Words.{nodeLimit, wordLimit}
 use Rattle.theory.specs.Nets.{Net}
 use Rattle.theory.specs.Marks.{forward, forwardStart}
 use Rattle.theory.specs.Scans.{Count, forwardScan}
-use Rattle.theory.proofs.Deciding.{Decides}
+use Rattle.laws.proofs.Deciding.{Decides}
 use Rattle.words.specs.Legal.{legalPrefix}
 use Rattle.words.proofs.NetCheck.{FirstIllegal}
 use Rattle.machine.specs.Scanning.{forwardScanned}

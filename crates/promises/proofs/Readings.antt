@@ -11,7 +11,8 @@ use Rattle.theory.proofs.Rounds.{same-eq}
 use Rattle.words.specs.Legal.{legalPrefix}
 use Rattle.words.specs.Table.{checkNet}
 use Rattle.machine.specs.Scanning.{scanNet, scanChecked}
-use Rattle.answers.specs.Table.{questionNet, questionChecked, firstBoth, firstClash, clashNet, clashChecked}
+use Rattle.answers.specs.Table.{questionNet, questionChecked}
+use Rattle.clashes.specs.Table.{firstBoth, firstClash, clashNet, clashChecked}
 use Rattle.completion.specs.Table.{completionNet, completionChecked}
 use Rattle.reasons.specs.Table.{reasonNet, reasonChecked}
 use Rattle.promises.specs.Readings.{Entry, readings, allAgree}

@@ -36,10 +36,10 @@ module _ (o k x y sign : ℕ) (e : ((leb (o + k) x || (ltb y o || leb (o + k) y)
   pair : (leb (o + k) x || (ltb y o || leb (o + k) y)) ≡ false
   pair = or-none-left (leb (o + k) x || (ltb y o || leb (o + k) y)) (ltb 1 sign) e
 
-  node-of : x < o + k
+  pub node-of : x < o + k
   node-of = leb-false (o + k) x (or-none-left (leb (o + k) x) (ltb y o || leb (o + k) y) pair)
 
-  kind-of : Kind o k y
+  pub kind-of : Kind o k y
   kind-of =
       let r = or-none-right (leb (o + k) x) (ltb y o || leb (o + k) y) pair in
       record { low = ltb-false y o (or-none-left (ltb y o) (leb (o + k) y) r); high = leb-false (o + k) y (or-none-right (ltb y o) (leb (o + k) y) r) }
@@ -50,7 +50,7 @@ module _ (o k : ℕ) (ws : List ℕ) (x y sign : ℕ) where
 
   -- A reason that is supported, as the theory has it.
   module _ (net : Net o k ws) (node : x < o + k) (kind : Kind o k y) (some : eqb (getD (distances (o + k) s ws y) x never) never ≡ false) where
-    near : getD (distances (o + k) s ws y) x never < never
+    pub near : getD (distances (o + k) s ws y) x never < never
     near = at (distances-small o k ws net y kind s x)
       where
         at : (getD (distances (o + k) s ws y) x never < o + k + (o + k)) ⊎ (getD (distances (o + k) s ws y) x never ≡ never) → getD (distances (o + k) s ws y) x never < never

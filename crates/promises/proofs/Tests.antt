@@ -18,7 +18,7 @@ use Rattle.theory.specs.Scans.{rounds, Count}
 use Rattle.theory.specs.Reasons.{never}
 use Rattle.theory.specs.Searches.{distances}
 use Rattle.theory.specs.declared.Command.{Command}
-use Rattle.theory.proofs.Deciding.{Decides, decides-below, decides-most, decides-equal, decides-either, decides-same}
+use Rattle.laws.proofs.Deciding.{Decides, decides-below, decides-most, decides-equal, decides-either, decides-same}
 use Rattle.theory.proofs.Budgets.{ends-within, last-round, count-unique}
 use Rattle.theory.proofs.Distances.{distances-small}
 use Rattle.theory.proofs.Reason.{reason-exactly}

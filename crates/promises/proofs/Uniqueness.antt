@@ -8,9 +8,10 @@ use Rattle.words.specs.Table.{checkNet}
 use Rattle.words.specs.declared.Checked.{Checked}
 use Rattle.machine.specs.Scanning.{Outcome, outcome, forwardScanned, kindScanned}
 use Rattle.machine.specs.declared.Scanned.{Scanned}
-use Rattle.answers.specs.Table.{Question, question, questioned, Clash, clash, clashedBy}
+use Rattle.answers.specs.Table.{Question, question, questioned}
+use Rattle.clashes.specs.Table.{Clash, clash, clashedBy}
 use Rattle.answers.specs.declared.Asked.{Asked}
-use Rattle.answers.specs.declared.Clashed.{Clashed}
+use Rattle.clashes.specs.declared.Clashed.{Clashed}
 use Rattle.completion.specs.Table.{Completion, completion, completedBy}
 use Rattle.completion.specs.declared.Completed.{Completed}
 use Rattle.reasons.specs.Table.{Reason, reason, reasoned}

@@ -9,6 +9,7 @@ use native.Mathlib.Nat.{le-refl}
 use lib.Dec.{ltb, eqb}
 use lib.ListN.{length, getD, length-replicate}
 use borrow.Author.Tests.{le-ltb}
+use Rattle.theory.specs.NetM.{M}
 use Rattle.laws.proofs.Booleans.{clash}
 use Rattle.theory.specs.Words.{isnt, wordLimit}
 use Rattle.theory.specs.Nets.{Net}
@@ -22,8 +23,9 @@ use Rattle.words.specs.Table.{checkNet, refusalRow}
 use Rattle.words.specs.declared.Refusal.{Refusal}
 use Rattle.words.specs.declared.Refusal.the-variants.{TooManyNodes, TooManyWords, IllegalWord, BadQuestion, ShortBuffer}
 use Rattle.machine.specs.Scanning.{Outcome, forwardScanned, scanNet, scanChecked}
+use Rattle.starts.specs.Starts.{cleared}
 use Rattle.machine.specs.declared.Scanned.the-variants as scanned
-use Rattle.answers.specs.Table.{questionNet, questionChecked, cleared, askedRow}
+use Rattle.answers.specs.Table.{questionNet, questionChecked, askedRow}
 use Rattle.answers.specs.declared.Answer.the-variants.{None}
 use Rattle.answers.specs.declared.Asked.{Asked}
 use Rattle.answers.specs.declared.Asked.the-variants as asked
@@ -34,7 +36,6 @@ use Rattle.promises.specs.Demand1.{Demand1}
 use Rattle.promises.specs.Demand2.{Demand2}
 use Rattle.promises.specs.Demand3.{CompletesTo, Joined, Demand3}
 use Rattle.promises.specs.Worthless.{refuser, denier, copier, inventor}
-use Rattle.promises.specs.Readings.{M}
 use Rattle.promises.proofs.Tests.{past-line-3}
 use Rattle.promises.proofs.Demand2.{demand-2}
 use Rattle.promises.proofs.Demand3.{filled-same}
@@ -113,17 +114,17 @@ copier-breaks d =
 -- ── one that runs the first round and reports an invented count ──
 
 -- Net M, forward from 0, budget 12: the first round leaves no F at 4.
-stops-early : (invented : ℕ → ℕ → List ℕ → ℕ → ℕ)
-    → inventor invented .forwardScan 2 4 M 0 12 (blank 6) ≡ record { answer = scanned.Done (invented 2 4 M 0); marks = 1 ∷ 0 ∷ 1 ∷ 2 ∷ 0 ∷ 0 ∷ [] }
+stops-early : (invented : ℕ → ℕ → List ℕ → ℕ → ℕ → List ℕ → ℕ)
+    → inventor invented .forwardScan 2 4 M 0 12 (blank 6) ≡ record { answer = scanned.Done (invented 2 4 M 0 12 (blank 6)); marks = 1 ∷ 0 ∷ 1 ∷ 2 ∷ 0 ∷ 0 ∷ [] }
 unfolding legalPrefix rounds same round command links link mark
 stops-early invented = refl
 
 -- But 0 ↛ 4 is supported, whatever count is invented.
-pub inventor-breaks : (invented : ℕ → ℕ → List ℕ → ℕ → ℕ) → Demand2 (inventor invented) → ⊥
+pub inventor-breaks : (invented : ℕ → ℕ → List ℕ → ℕ → ℕ → List ℕ → ℕ) → Demand2 (inventor invented) → ⊥
 inventor-breaks invented d =
     clash
     (sym (ap (λ (r : Outcome). has F (getD (r .marks) 4 0)) (stops-early invented))
-    ∙ d .forwardScan 2 4 M 0 12 (blank 6) (invented 2 4 M 0) (ap (λ (r : Outcome). r .answer) (stops-early invented)) 4 (record { low = omega arith; high = omega arith }) isnt .1
+    ∙ d .forwardScan 2 4 M 0 12 (blank 6) (invented 2 4 M 0 12 (blank 6)) (ap (λ (r : Outcome). r .answer) (stops-early invented)) 4 (record { low = omega arith; high = omega arith }) isnt .1
     nought-is-not-four)
 
 -- One kind, forward from 0: without words the count is 1, and with word 1 it is 2; in both the first round sets all there is to set.
@@ -135,19 +136,19 @@ count-2 : forwardScanned 0 1 (1 ∷ []) 0 2 (blank 1) .answer ≡ scanned.Done 2
 unfolding checkNet legalPrefix scanNet scanChecked rounds same round command links link mark
 count-2 = refl
 
-reports-1 : (invented : ℕ → ℕ → List ℕ → ℕ → ℕ) → inventor invented .forwardScan 0 1 [] 0 2 (blank 1) .answer ≡ scanned.Done (invented 0 1 [] 0)
+reports-1 : (invented : ℕ → ℕ → List ℕ → ℕ → ℕ → List ℕ → ℕ) → inventor invented .forwardScan 0 1 [] 0 2 (blank 1) .answer ≡ scanned.Done (invented 0 1 [] 0 2 (blank 1))
 unfolding legalPrefix rounds same round command links link mark
 reports-1 invented = refl
 
-reports-2 : (invented : ℕ → ℕ → List ℕ → ℕ → ℕ) → inventor invented .forwardScan 0 1 (1 ∷ []) 0 2 (blank 1) .answer ≡ scanned.Done (invented 0 1 (1 ∷ []) 0)
+reports-2 : (invented : ℕ → ℕ → List ℕ → ℕ → ℕ → List ℕ → ℕ) → inventor invented .forwardScan 0 1 (1 ∷ []) 0 2 (blank 1) .answer ≡ scanned.Done (invented 0 1 (1 ∷ []) 0 2 (blank 1))
 unfolding legalPrefix rounds same round command links link mark
 reports-2 invented = refl
 
 -- The rounds alone shut it out where its marks are right: one invented number is not both counts.
-pub invented-count-breaks : (c : ℕ) → Demand2 (inventor (λ o k ws x. c)) → ⊥
+pub invented-count-breaks : (c : ℕ) → Demand2 (inventor (λ o k ws x budget m. c)) → ⊥
 invented-count-breaks c d =
     let a = demand-2 .forwardRounds 0 1 [] 0 2 (blank 1) 1 count-1 .0 in
     let b = demand-2 .forwardRounds 0 1 (1 ∷ []) 0 2 (blank 1) 2 count-2 .0 in
-    let e = count-unique forward [] (forwardStart 1 0) c 1 (d .forwardRounds 0 1 [] 0 2 (blank 1) c (reports-1 (λ o k ws x. c)) .0) a in
-    let f = count-unique forward (1 ∷ []) (forwardStart 1 0) c 2 (d .forwardRounds 0 1 (1 ∷ []) 0 2 (blank 1) c (reports-2 (λ o k ws x. c)) .0) b in
+    let e = count-unique forward [] (forwardStart 1 0) c 1 (d .forwardRounds 0 1 [] 0 2 (blank 1) c (reports-1 (λ o k ws x budget m. c)) .0) a in
+    let f = count-unique forward (1 ∷ []) (forwardStart 1 0) c 2 (d .forwardRounds 0 1 (1 ∷ []) 0 2 (blank 1) c (reports-2 (λ o k ws x budget m. c)) .0) b in
     omega arith

@@ -12,20 +12,25 @@ use Rattle.theory.specs.Reasons.{never}
 use Rattle.theory.specs.Searches.{distances, reasonStates, reasonList}
 use Rattle.theory.specs.Checks.{passes}
 use Rattle.words.specs.Legal.{legalPrefix}
+use Rattle.words.specs.declared.Checked.{Checked}
+use Rattle.words.specs.declared.Checked.the-variants as checked
 use Rattle.words.specs.declared.Refusal.{Refusal}
 use Rattle.words.specs.declared.Refusal.the-variants.{TooManyNodes, TooManyWords, IllegalWord, BadQuestion, ShortBuffer}
 use Rattle.machine.specs.Scanning.{Outcome, outcome}
+use Rattle.starts.specs.Starts.{cleared}
 use Rattle.machine.specs.declared.Scanned.the-variants as scanned
-use Rattle.answers.specs.Table.{Question, question, answerAt, Clash, clash, cleared, clashNodes, firstClash, clashedRow}
+use Rattle.answers.specs.Table.{Question, question, answerAt}
+use Rattle.clashes.specs.Table.{Clash, clash, clashNodes, firstClash, clashedRow}
 use Rattle.answers.specs.declared.Asked.the-variants as asked
-use Rattle.answers.specs.declared.Clashed.the-variants as clashed
+use Rattle.clashes.specs.declared.Clashed.the-variants as clashed
 use Rattle.completion.specs.Table.{Completion, completion}
 use Rattle.completion.specs.declared.Completed.the-variants as completed
 use Rattle.reasons.specs.Table.{Reason, reason}
 use Rattle.reasons.specs.declared.Reasoned.the-variants as reasoned
 use Rattle.checks.specs.declared.Verdict.{Verdict}
 use Rattle.checks.specs.declared.Verdict.the-variants as verdict
-use Rattle.netfile.specs.Contents.{u32At, fileLimit, contentsOf, bodiesOf}
+use Rattle.numbers.specs.Bytes.{u32At}
+use Rattle.netfile.specs.Contents.{fileLimit, contentsOf, bodiesOf}
 use Rattle.netfile.specs.declared.Contents.{Contents}
 use Rattle.netfile.specs.declared.Contents.the-variants.{Bodies, Malformed}
 use Rattle.promises.specs.Tables.{Line, line}
@@ -37,6 +42,14 @@ netLines refused o k ws rest =
     ∷ line 2 (ltb wordLimit (length ws)) (refused TooManyWords)
     ∷ line 3 (ltb (legalPrefix o (o + k) ws) (length ws)) (refused (IllegalWord (legalPrefix o (o + k) ws)))
     ∷ rest
+
+-- ── the check of a net ──
+
+abbrev pub netTable : ℕ → ℕ → List ℕ → List (Line Checked)
+netTable o k ws = netLines checked.Refused o k ws []
+
+abbrev pub netDone : ℕ → ℕ → List ℕ → Checked
+netDone o k ws = checked.Nodes (o + k)
 
 -- ── the forward scan from x ──
 
@@ -162,13 +175,26 @@ wordsAt s = 24 + u32At s 4
 abbrev pub questionsAt : List ℕ → ℕ
 questionsAt s = wordsAt s + u32At s 12
 
--- Its one number is 9; the place tells the lines apart, and each is numbered 90 and its place.
+-- What can be wrong with a file, in the order in which it is looked for: its size, then the first, the second and the third entry.
+abbrev pub missized : List ℕ → Bool
+missized s = ltb (length s) 24 || ltb fileLimit (length s)
+
+abbrev pub firstWrong : List ℕ → Bool
+firstWrong s = not (eqb (u32At s 0) 24 && (eqb (u32At s 4) 8 && leb (wordsAt s) (length s)))
+
+abbrev pub secondWrong : List ℕ → Bool
+secondWrong s = not (eqb (u32At s 8) (wordsAt s) && (eqb (u32At s 12 % 4) 0 && leb (questionsAt s) (length s)))
+
+abbrev pub thirdWrong : List ℕ → Bool
+thirdWrong s = not (eqb (u32At s 16) (questionsAt s) && (eqb (u32At s 20 % 4) 0 && eqb (questionsAt s + u32At s 20) (length s)))
+
+-- The place of the first of these.
+abbrev pub wrongPlace : List ℕ → ℕ
+wrongPlace s = cond (missized s) 3 (cond (firstWrong s) 0 (cond (secondWrong s) 1 2))
+
 abbrev pub fileTable : List ℕ → List (Line Reading)
 fileTable s =
-    line 93 (ltb (length s) 24 || ltb fileLimit (length s)) (reading (Malformed 3) ([] ∷ [] ∷ [] ∷ []))
-    ∷ line 90 (not (eqb (u32At s 0) 24 && (eqb (u32At s 4) 8 && leb (wordsAt s) (length s)))) (reading (Malformed 0) ([] ∷ [] ∷ [] ∷ []))
-    ∷ line 91 (not (eqb (u32At s 8) (wordsAt s) && (eqb (u32At s 12 % 4) 0 && leb (questionsAt s) (length s)))) (reading (Malformed 1) ([] ∷ [] ∷ [] ∷ []))
-    ∷ line 92 (not (eqb (u32At s 16) (questionsAt s) && (eqb (u32At s 20 % 4) 0 && eqb (questionsAt s + u32At s 20) (length s)))) (reading (Malformed 2) ([] ∷ [] ∷ [] ∷ []))
+    line 9 (missized s || (firstWrong s || (secondWrong s || thirdWrong s))) (reading (Malformed (wrongPlace s)) ([] ∷ [] ∷ [] ∷ []))
     ∷ []
 
 abbrev pub fileDone : List ℕ → Reading

@@ -1,9 +1,12 @@
--- A clash: an object with both answers at a kind; and the smallest one.
+-- A clash: an object with both answers at a kind; the smallest one; and what the clash test promises.
 use Prim.Native.Nat.{ℕ, _≤_, _<_}
+use mathlib.Core.Path.{_≡_}
 use mathlib.Core.List.{List}
 use Rattle.theory.specs.Words.{is, isnt}
 use Rattle.theory.specs.Nets.{Kind, Links}
 use Rattle.theory.specs.Support.{Supported}
+use Rattle.clashes.specs.declared.Clashed.the-variants as clashed
+use Rattle.promises.specs.Engines.{Engine}
 
 -- The net supports both x → y and x ↛ y of the object x.
 pub record ClashAt (o k : ℕ) (ws : List ℕ) (x y : ℕ) : Type 0 where
@@ -17,3 +20,10 @@ pub record SmallestClash (o k : ℕ) (ws : List ℕ) (x y : ℕ) : Type 0 where
   pub clash : ClashAt o k ws x y
   pub object : (u v : ℕ) → ClashAt o k ws u v → x ≤ u
   pub kind : (v : ℕ) → ClashAt o k ws x v → y ≤ v
+
+-- What the clash test promises.
+pub record Clashing (e : Engine) : Type 0 where
+  -- A clash that is given is the smallest one.
+  pub at : (o k : ℕ) (ws m : List ℕ) (x y : ℕ) → e .clashTest o k ws m .answer ≡ clashed.At x y → SmallestClash o k ws x y
+  -- Row 7: there is none.
+  pub nowhere : (o k : ℕ) (ws m : List ℕ) → e .clashTest o k ws m .answer ≡ clashed.Nowhere → (x y : ℕ) → ClashAt o k ws x y → ⊥

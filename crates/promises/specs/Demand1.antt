@@ -2,11 +2,12 @@
 use Prim.Native.Nat.{ℕ}
 use mathlib.Core.List.{List}
 use Rattle.promises.specs.Tables.{Obeys}
-use Rattle.promises.specs.Calls.{forwardTable, forwardDone, kindTable, kindDone, questionTable, questionDone, clashTable, clashDone, completionTable, completionDone, reasonTable, reasonDone, checkTable, checkDone}
-use Rattle.promises.specs.Numbers.{scanNumber, questionNumber, clashNumber, completionNumber, reasonNumber, verdictNumber}
+use Rattle.promises.specs.Calls.{netTable, netDone, forwardTable, forwardDone, kindTable, kindDone, questionTable, questionDone, clashTable, clashDone, completionTable, completionDone, reasonTable, reasonDone, checkTable, checkDone}
+use Rattle.promises.specs.Numbers.{checkedNumber, scanNumber, questionNumber, clashNumber, completionNumber, reasonNumber, verdictNumber}
 use Rattle.promises.specs.Engines.{Engine}
 
 pub record Demand1 (e : Engine) : Type 0 where
+  pub netCheck : (o k : ℕ) (ws : List ℕ) → Obeys checkedNumber (netTable o k ws) (netDone o k ws) (e .netCheck o k ws)
   pub forwardScan : (o k : ℕ) (ws : List ℕ) (x budget : ℕ) (m : List ℕ)
       → Obeys scanNumber (forwardTable o k ws x budget m) (forwardDone o k ws x budget m) (e .forwardScan o k ws x budget m)
   pub kindScan : (o k : ℕ) (ws : List ℕ) (y budget : ℕ) (m : List ℕ)

@@ -5,11 +5,10 @@ use mathlib.Core.Path.{_≡_}
 use mathlib.Core.Bool.{Bool, true, false}
 use mathlib.Core.List.{List}
 use mathlib.Core.Logic.{_↔_}
-use lib.ListN.{getD}
 use Rattle.theory.specs.Words.{Sign, is, isnt}
 use Rattle.theory.specs.Nets.{Statements, Kind, Links}
 use Rattle.theory.specs.Support.{Supported, Closed}
-use Rattle.theory.specs.Marks.{T, F, U, has, forward, kindly, forwardStart, kindStart}
+use Rattle.theory.specs.Marks.{At, markerOf, U, forward, kindly, forwardStart, kindStart}
 use Rattle.theory.specs.Scans.{Count}
 use Rattle.machine.specs.declared.Scanned.the-variants as scanned
 use Rattle.answers.specs.declared.Answer.{Answer}
@@ -31,15 +30,6 @@ says No is = false
 says No isnt = true
 says Both s = true
 
--- The marker for a sign: T for →, F for ↛.
-abbrev pub markOf : Sign → ℕ
-markOf is = T
-markOf isnt = F
-
--- The marks have marker j at node v.
-abbrev pub Marked : List ℕ → ℕ → ℕ → Type 0
-Marked m j v = has j (getD m v 0) ≡ true
-
 pub record Demand2 (e : Engine) : Type 0 where
   -- The question: yes exactly if x → y is supported, no exactly if x ↛ y is; its rounds are those of the forward scan, at most 2N.
   pub question : (o k : ℕ) (ws : List ℕ) (x y : ℕ) (m : List ℕ) (a : Answer) (count : ℕ) → e .question o k ws x y m .answer ≡ asked.Done a count
@@ -48,19 +38,19 @@ pub record Demand2 (e : Engine) : Type 0 where
       → Count forward ws (forwardStart (o + k) x) count × (count ≤ 2 * (o + k))
   -- The forward scan: the same at every kind; where the budget is spent no mark at a kind is wrong.
   pub forwardScan : (o k : ℕ) (ws : List ℕ) (x budget : ℕ) (m : List ℕ) (count : ℕ) → e .forwardScan o k ws x budget m .answer ≡ scanned.Done count
-      → (y : ℕ) → Kind o k y → (s : Sign) → Marked (e .forwardScan o k ws x budget m .marks) (markOf s) y ↔ Supported o k (Links ws) x y s
+      → (y : ℕ) → Kind o k y → (s : Sign) → At (e .forwardScan o k ws x budget m .marks) (markerOf s) y ↔ Supported o k (Links ws) x y s
   pub forwardRounds : (o k : ℕ) (ws : List ℕ) (x budget : ℕ) (m : List ℕ) (count : ℕ) → e .forwardScan o k ws x budget m .answer ≡ scanned.Done count
       → Count forward ws (forwardStart (o + k) x) count × (count ≤ 2 * (o + k))
   pub forwardSpent : (o k : ℕ) (ws : List ℕ) (x budget : ℕ) (m : List ℕ) (count : ℕ) → e .forwardScan o k ws x budget m .answer ≡ scanned.Spent count
-      → (y : ℕ) → Kind o k y → (s : Sign) → Marked (e .forwardScan o k ws x budget m .marks) (markOf s) y → Supported o k (Links ws) x y s
+      → (y : ℕ) → Kind o k y → (s : Sign) → At (e .forwardScan o k ws x budget m .marks) (markerOf s) y → Supported o k (Links ws) x y s
   -- The kind scan: the same at every node, and U at z exactly if y → z; at most 3N − 1 rounds; where the budget is spent no mark is wrong.
   pub kindScan : (o k : ℕ) (ws : List ℕ) (y budget : ℕ) (m : List ℕ) (count : ℕ) → e .kindScan o k ws y budget m .answer ≡ scanned.Done count
-      → (x : ℕ) → x < o + k → (s : Sign) → Marked (e .kindScan o k ws y budget m .marks) (markOf s) x ↔ Supported o k (Links ws) x y s
+      → (x : ℕ) → x < o + k → (s : Sign) → At (e .kindScan o k ws y budget m .marks) (markerOf s) x ↔ Supported o k (Links ws) x y s
   pub kindScanUp : (o k : ℕ) (ws : List ℕ) (y budget : ℕ) (m : List ℕ) (count : ℕ) → e .kindScan o k ws y budget m .answer ≡ scanned.Done count
-      → (z : ℕ) → z < o + k → Marked (e .kindScan o k ws y budget m .marks) U z ↔ Supported o k (Links ws) y z is
+      → (z : ℕ) → z < o + k → At (e .kindScan o k ws y budget m .marks) U z ↔ Supported o k (Links ws) y z is
   pub kindRounds : (o k : ℕ) (ws : List ℕ) (y budget : ℕ) (m : List ℕ) (count : ℕ) → e .kindScan o k ws y budget m .answer ≡ scanned.Done count
       → Count kindly ws (kindStart (o + k) y) count × (count ≤ 3 * (o + k) - 1)
   pub kindSpent : (o k : ℕ) (ws : List ℕ) (y budget : ℕ) (m : List ℕ) (count : ℕ) → e .kindScan o k ws y budget m .answer ≡ scanned.Spent count
-      → (x : ℕ) → x < o + k → (s : Sign) → Marked (e .kindScan o k ws y budget m .marks) (markOf s) x → Supported o k (Links ws) x y s
+      → (x : ℕ) → x < o + k → (s : Sign) → At (e .kindScan o k ws y budget m .marks) (markerOf s) x → Supported o k (Links ws) x y s
   pub kindSpentUp : (o k : ℕ) (ws : List ℕ) (y budget : ℕ) (m : List ℕ) (count : ℕ) → e .kindScan o k ws y budget m .answer ≡ scanned.Spent count
-      → (z : ℕ) → z < o + k → Marked (e .kindScan o k ws y budget m .marks) U z → Supported o k (Links ws) y z is
+      → (z : ℕ) → z < o + k → At (e .kindScan o k ws y budget m .marks) U z → Supported o k (Links ws) y z is

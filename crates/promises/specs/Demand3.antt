@@ -9,7 +9,7 @@ use lib.ListN.{length, drop}
 use Rattle.theory.specs.Words.{Sign, tailOf, wordLimit}
 use Rattle.theory.specs.Nets.{Net}
 use Rattle.theory.specs.Completion as theory
-use Rattle.answers.specs.Table.{cleared}
+use Rattle.starts.specs.Starts.{cleared}
 use Rattle.answers.specs.declared.Asked.{Asked}
 use Rattle.answers.specs.declared.Asked.the-variants as asked
 use Rattle.completion.specs.Table.{completion}
@@ -38,7 +38,7 @@ pub record Joined (o k : ℕ) (ws vs : List ℕ) : Type 0 where
   pub right : Net o k vs
   pub short : length (ws ++ vs) ≤ wordLimit
 
--- The engine gives the question (x, y) the same word over two nets.
+-- The engine gives every question the same word over two nets.
 abbrev pub SameWord : Engine → ℕ → ℕ → List ℕ → List ℕ → Type 0
 SameWord e o k ws vs = (x y : ℕ) (m : List ℕ) → wordOf (e .question o k ws x y m .answer) ≡ wordOf (e .question o k vs x y m .answer)
 

@@ -1,15 +1,19 @@
 -- An engine: what it answers and leaves for each call. The promises are stated of any engine; ours is the one that the operations' statements describe.
 use Prim.Native.Nat.{ℕ}
 use mathlib.Core.List.{List}
+use Rattle.words.specs.Table.{checkNet}
+use Rattle.words.specs.declared.Checked.{Checked}
 use Rattle.machine.specs.Scanning.{Outcome, forwardScanned, kindScanned}
-use Rattle.answers.specs.Table.{Question, questioned, Clash, clashedBy}
+use Rattle.answers.specs.Table.{Question, questioned}
+use Rattle.clashes.specs.Table.{Clash, clashedBy}
 use Rattle.completion.specs.Table.{Completion, completedBy}
 use Rattle.reasons.specs.Table.{Reason, reasoned}
 use Rattle.checks.specs.Table.{verdict}
 use Rattle.checks.specs.declared.Verdict.{Verdict}
 
--- The seven operations, each over objects, kinds, words, what is asked, and the lent buffers as they are at entry.
+-- The eight operations, each over objects, kinds, words, what is asked, and the lent buffers as they are at entry.
 pub record Engine : Type 0 where
+  pub netCheck : ℕ → ℕ → List ℕ → Checked
   pub forwardScan : ℕ → ℕ → List ℕ → ℕ → ℕ → List ℕ → Outcome
   pub kindScan : ℕ → ℕ → List ℕ → ℕ → ℕ → List ℕ → Outcome
   pub question : ℕ → ℕ → List ℕ → ℕ → ℕ → List ℕ → Question
@@ -21,6 +25,7 @@ pub record Engine : Type 0 where
 -- The engine of the operations' own statements.
 abbrev pub ours : Engine
 ours = record {
+  netCheck = checkNet;
   forwardScan = forwardScanned;
   kindScan = kindScanned;
   question = questioned;
@@ -33,6 +38,7 @@ ours = record {
 -- Our engine with another forward scan, kind scan, question or completion.
 abbrev pub withForwardScan : (ℕ → ℕ → List ℕ → ℕ → ℕ → List ℕ → Outcome) → Engine
 withForwardScan f = record {
+  netCheck = ours .netCheck;
   forwardScan = f;
   kindScan = ours .kindScan;
   question = ours .question;
@@ -44,6 +50,7 @@ withForwardScan f = record {
 
 abbrev pub withKindScan : (ℕ → ℕ → List ℕ → ℕ → ℕ → List ℕ → Outcome) → Engine
 withKindScan f = record {
+  netCheck = ours .netCheck;
   forwardScan = ours .forwardScan;
   kindScan = f;
   question = ours .question;
@@ -55,6 +62,7 @@ withKindScan f = record {
 
 abbrev pub withQuestion : (ℕ → ℕ → List ℕ → ℕ → ℕ → List ℕ → Question) → Engine
 withQuestion f = record {
+  netCheck = ours .netCheck;
   forwardScan = ours .forwardScan;
   kindScan = ours .kindScan;
   question = f;
@@ -66,6 +74,7 @@ withQuestion f = record {
 
 abbrev pub withCompletion : (ℕ → ℕ → List ℕ → List ℕ → List ℕ → Completion) → Engine
 withCompletion f = record {
+  netCheck = ours .netCheck;
   forwardScan = ours .forwardScan;
   kindScan = ours .kindScan;
   question = ours .question;

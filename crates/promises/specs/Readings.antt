@@ -3,11 +3,13 @@ use Prim.Native.Nat.{ℕ, _/_, _%_}
 use mathlib.Core.Bool.{Bool, true, _&&_}
 use mathlib.Core.List.{List, [], _∷_, _++_, map}
 use lib.ListN.{length, replicate}
+use Rattle.theory.specs.NetM.{M}
 use Rattle.theory.specs.Scans.{same}
 use Rattle.theory.specs.Downscan.{downscan}
 use Rattle.words.specs.Table.{Row}
 use Rattle.machine.specs.Scanning.{Outcome, forwardScanned, kindScanned, scanRow}
-use Rattle.answers.specs.Table.{Question, questioned, askedRow, Clash, clashedBy, clashedRow}
+use Rattle.answers.specs.Table.{Question, questioned, askedRow}
+use Rattle.clashes.specs.Table.{Clash, clashedBy, clashedRow}
 use Rattle.completion.specs.Table.{Completion, completedBy, completedRow}
 use Rattle.reasons.specs.Table.{Reason, reasoned, reasonedRow}
 
@@ -48,10 +50,6 @@ noes m = map (λ (b : ℕ). b / 2 % 2) m
 
 -- ── the readings ──
 
--- Net M: two traces and four kinds.
-abbrev pub M : List ℕ
-M = 4 ∷ 2058 ∷ 4103 ∷ 8198 ∷ 10248 ∷ []
-
 -- Buffers hold 255 in every place beforehand, and one place more than is needed where the paper does not say how many: that place is kept.
 abbrev pub lent : ℕ → List ℕ
 lent n = replicate n 255
@@ -83,8 +81,8 @@ abbrev pub otherReadings : List Entry
 otherReadings =
     entry (scanned (kindScanned 2 4 M 4 17 (lent 7))) (0 ∷ 3 ∷ 0 ∷ 7 ∷ 2 ∷ 1 ∷ 2 ∷ 4 ∷ 5 ∷ 1 ∷ 255 ∷ [])
     ∷ entry (noes (downscan 6 M 4 17 .marks)) (0 ∷ 0 ∷ 0 ∷ 0 ∷ 0 ∷ 0 ∷ [])
-    ∷ entry (reasons (reasoned 2 4 M 0 5 1 (lent 12) (lent 7))) (0 ∷ 7 ∷ 0 ∷ 12 ∷ (scratchM ++ (7 ∷ 2 ∷ 3 ∷ 0 ∷ 2 ∷ 3 ∷ 4 ∷ 5 ∷ [])))
-    ∷ entry (reasons (reasoned 2 4 M 0 5 1 (lent 12) (lent 6))) (8 ∷ 7 ∷ 0 ∷ 12 ∷ (scratchM ++ (6 ∷ 255 ∷ 255 ∷ 255 ∷ 255 ∷ 255 ∷ 255 ∷ [])))
+    ∷ entry (reasons (reasoned 2 4 M 0 5 1 (lent 13) (lent 8))) (0 ∷ 7 ∷ 0 ∷ 13 ∷ (scratchM ++ (255 ∷ 8 ∷ 2 ∷ 3 ∷ 0 ∷ 2 ∷ 3 ∷ 4 ∷ 5 ∷ 255 ∷ [])))
+    ∷ entry (reasons (reasoned 2 4 M 0 5 1 (lent 13) (lent 6))) (8 ∷ 7 ∷ 0 ∷ 13 ∷ (scratchM ++ (255 ∷ 6 ∷ 255 ∷ 255 ∷ 255 ∷ 255 ∷ 255 ∷ 255 ∷ [])))
     ∷ entry (completes (completedBy 2 4 M (lent 7) (lent 22))) (0 ∷ 21 ∷ 0 ∷ 7 ∷ 0 ∷ 0 ∷ 0 ∷ 0 ∷ 0 ∷ 0 ∷ 255 ∷ 22 ∷ (completedM ++ (255 ∷ [])))
     ∷ entry (clashes (clashedBy 1 2 (2 ∷ 3 ∷ []) (lent 4))) (0 ∷ 0 ∷ 1 ∷ 4 ∷ 0 ∷ 0 ∷ 0 ∷ 255 ∷ [])
     ∷ entry (completes (completedBy 0 1 (1 ∷ []) (lent 2) (lent 3))) (0 ∷ 2 ∷ 0 ∷ 2 ∷ 0 ∷ 255 ∷ 3 ∷ 0 ∷ 1 ∷ 255 ∷ [])

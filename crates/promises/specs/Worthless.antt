@@ -5,13 +5,16 @@ use lib.Dec.{ltb}
 use lib.ListN.{length, drop}
 use Rattle.theory.specs.Marks.{round, forward, forwardStart}
 use Rattle.words.specs.declared.Refusal.{Refusal}
+use Rattle.words.specs.declared.Checked.the-variants as checked
 use Rattle.machine.specs.Scanning.{Outcome, outcome}
+use Rattle.starts.specs.Starts.{cleared}
 use Rattle.machine.specs.declared.Scanned.the-variants as scanned
-use Rattle.answers.specs.Table.{question, questioned, clash, cleared}
+use Rattle.answers.specs.Table.{question, questioned}
+use Rattle.clashes.specs.Table.{clash}
 use Rattle.answers.specs.declared.Answer.the-variants.{None}
 use Rattle.answers.specs.declared.Asked.{Asked}
 use Rattle.answers.specs.declared.Asked.the-variants as asked
-use Rattle.answers.specs.declared.Clashed.the-variants as clashed
+use Rattle.clashes.specs.declared.Clashed.the-variants as clashed
 use Rattle.completion.specs.Table.{Completion, completion, fill}
 use Rattle.completion.specs.declared.Completed.the-variants as completed
 use Rattle.words.specs.declared.Refusal.the-variants.{ShortBuffer}
@@ -25,6 +28,7 @@ use Rattle.promises.specs.Engines.{Engine, withForwardScan, withQuestion
 -- One that refuses all calls, with the refusal r.
 abbrev pub refuser : Refusal → Engine
 refuser r = record {
+  netCheck = λ o k ws. checked.Refused r;
   forwardScan = λ o k ws x budget m. outcome (scanned.Refused r) m;
   kindScan = λ o k ws y budget m. outcome (scanned.Refused r) m;
   question = λ o k ws x y m. question (asked.Refused r) m;
@@ -53,11 +57,11 @@ ownCompletion o k ws m l =
 abbrev pub copier : Engine
 copier = withCompletion ownCompletion
 
--- A forward scan that runs the first round and reports an invented count, with the right refusals.
-abbrev pub oneRound : (ℕ → ℕ → List ℕ → ℕ → ℕ) → ℕ → ℕ → List ℕ → ℕ → ℕ → List ℕ → Outcome
+-- A forward scan that runs the first round and reports an invented count, with the right refusals, and the right outcome of a budget that is spent.
+abbrev pub oneRound : (ℕ → ℕ → List ℕ → ℕ → ℕ → List ℕ → ℕ) → ℕ → ℕ → List ℕ → ℕ → ℕ → List ℕ → Outcome
 oneRound invented o k ws x budget m =
-    call (forwardTable o k ws x budget m) (outcome (scanned.Done (invented o k ws x)) (round forward ws (forwardStart (o + k) x) ++ drop (o + k) m))
+    call (forwardTable o k ws x budget m) (outcome (scanned.Done (invented o k ws x budget m)) (round forward ws (forwardStart (o + k) x) ++ drop (o + k) m))
 
 -- One that does so.
-abbrev pub inventor : (ℕ → ℕ → List ℕ → ℕ → ℕ) → Engine
+abbrev pub inventor : (ℕ → ℕ → List ℕ → ℕ → ℕ → List ℕ → ℕ) → Engine
 inventor invented = withForwardScan (oneRound invented)

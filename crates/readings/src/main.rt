@@ -1,19 +1,17 @@
 // Runs the cases of standard input on the proved operations and on the second engine, and says of each whether they agree.
 
-mod rows; // rows.rt: number and values of the proved operations' answers
+mod outcomes; // outcomes.rt: number and values of the proved operations' answers
 mod proved; // proved.rt: the proved operations
 mod other; // other.rt: the second engine's operations
 mod engines; // engines.rt: one case on one engine
-mod show; // show.rt: what is printed
-mod tally; // tally.rt: how many cases were run, and how they ended
 mod compare; // compare.rt: one line on both engines
 
 use cases::feed::Feed;
 use cases::feed::take_line;
+use cases::tally::Tally;
+use cases::tally::empty_tally;
+use cases::tally::show_tally;
 use compare::run_line;
-use tally::Tally;
-use tally::empty_tally;
-use tally::show_tally;
 
 // Runs every line of the input.
 fn run_lines(chunk: &mut [u8], room: &mut [u8]) -> Tally {

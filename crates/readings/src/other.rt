@@ -1,6 +1,6 @@
 // The operations of the second engine.
-use crate::rows::narrow;
-use crate::rows::row;
+use crate::outcomes::narrow;
+use crate::outcomes::row;
 use cases::operations::Numbers;
 use cases::operations::Operation;
 use second::Outcome;

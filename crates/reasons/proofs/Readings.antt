@@ -1,40 +1,36 @@
 -- Reasons by computation: the paper's example, ties, the rows and their order.
-use Prim.Native.Nat.{ℕ}
 use mathlib.Core.Path.{_≡_, refl}
-use mathlib.Core.List.{List, [], _∷_}
+use mathlib.Core.List.{[], _∷_}
 use lib.ListN.{replicate}
 use Rattle.theory.specs.Reasons.{never}
 use Rattle.theory.specs.Searches.{arcs, level, levels, distances, next, descend, reasonStates, firsts, reasonList}
+use Rattle.theory.specs.NetM.{M}
 use Rattle.words.specs.Legal.{legalPrefix}
 use Rattle.words.specs.Table.{checkNet}
 use Rattle.words.specs.declared.Refusal.the-variants.{TooManyNodes, IllegalWord, BadQuestion, ShortBuffer}
 use Rattle.reasons.specs.Table.{reason, reasonNet, reasonChecked, reasoned}
 use Rattle.reasons.specs.declared.Reasoned.the-variants.{Done, Unsupported, Short, Refused}
 
--- The words of net M, which has 2 objects and 4 kinds.
-abbrev m : List ℕ
-m = 4 ∷ 2058 ∷ 4103 ∷ 8198 ∷ 10248 ∷ []
-
 -- M, 0 ↛ 5: seven places; a place of the scratch past 2N stays as it was.
-pub reason-of-m : reasoned 2 4 m 0 5 1 (replicate 13 7) (replicate 7 9)
+pub reason-of-m : reasoned 2 4 M 0 5 1 (replicate 13 7) (replicate 7 9)
     ≡ reason (Done 7) (4 ∷ never ∷ 3 ∷ never ∷ never ∷ never ∷ never ∷ never ∷ never ∷ 2 ∷ 1 ∷ 0 ∷ 7 ∷ []) (2 ∷ 3 ∷ 0 ∷ 2 ∷ 3 ∷ 4 ∷ 5 ∷ [])
 unfolding reasonChecked reasonNet checkNet legalPrefix distances levels level arcs reasonStates descend next firsts reasonList
 reason-of-m = refl
 
 -- Places of the list past the reason stay as they were.
-pub places-past-the-list : reasoned 2 4 m 0 5 1 (replicate 12 7) (replicate 9 9)
+pub places-past-the-list : reasoned 2 4 M 0 5 1 (replicate 12 7) (replicate 9 9)
     ≡ reason (Done 7) (4 ∷ never ∷ 3 ∷ never ∷ never ∷ never ∷ never ∷ never ∷ never ∷ 2 ∷ 1 ∷ 0 ∷ []) (2 ∷ 3 ∷ 0 ∷ 2 ∷ 3 ∷ 4 ∷ 5 ∷ 9 ∷ 9 ∷ [])
 unfolding reasonChecked reasonNet checkNet legalPrefix distances levels level arcs reasonStates descend next firsts reasonList
 places-past-the-list = refl
 
 -- Room for six is row 8, which asks for seven: the scratch is filled, the list unchanged.
-pub list-too-short : reasoned 2 4 m 0 5 1 (replicate 13 7) (replicate 6 9)
+pub list-too-short : reasoned 2 4 M 0 5 1 (replicate 13 7) (replicate 6 9)
     ≡ reason (Short 7) (4 ∷ never ∷ 3 ∷ never ∷ never ∷ never ∷ never ∷ never ∷ never ∷ 2 ∷ 1 ∷ 0 ∷ 7 ∷ []) (replicate 6 9)
 unfolding reasonChecked reasonNet checkNet legalPrefix distances levels level arcs reasonStates descend next firsts reasonList
 list-too-short = refl
 
 -- A kind is itself, by no link.
-pub kind-is-itself : reasoned 2 4 m 2 2 0 (replicate 12 7) (replicate 3 9)
+pub kind-is-itself : reasoned 2 4 M 2 2 0 (replicate 12 7) (replicate 3 9)
     ≡ reason (Done 3) (1 ∷ never ∷ 0 ∷ never ∷ never ∷ never ∷ never ∷ never ∷ never ∷ never ∷ never ∷ never ∷ []) (1 ∷ 0 ∷ 2 ∷ [])
 unfolding reasonChecked reasonNet checkNet legalPrefix distances levels level arcs reasonStates descend next firsts reasonList
 kind-is-itself = refl
@@ -46,13 +42,13 @@ unfolding reasonChecked reasonNet checkNet legalPrefix distances levels level ar
 kind-is-not-itself = refl
 
 -- No path: row 7, the scratch is filled, the list unchanged.
-pub not-supported : reasoned 2 4 m 3 4 0 (replicate 13 7) (replicate 3 9)
+pub not-supported : reasoned 2 4 M 3 4 0 (replicate 13 7) (replicate 3 9)
     ≡ reason Unsupported (never ∷ 2 ∷ never ∷ never ∷ 0 ∷ 1 ∷ never ∷ never ∷ never ∷ never ∷ never ∷ never ∷ 7 ∷ []) (replicate 3 9)
 unfolding reasonChecked reasonNet checkNet legalPrefix distances levels level arcs reasonStates descend next firsts reasonList
 not-supported = refl
 
 -- Row 7 comes before row 8.
-pub not-supported-and-no-room : reasoned 2 4 m 3 4 0 (replicate 12 7) []
+pub not-supported-and-no-room : reasoned 2 4 M 3 4 0 (replicate 12 7) []
     ≡ reason Unsupported (never ∷ 2 ∷ never ∷ never ∷ 0 ∷ 1 ∷ never ∷ never ∷ never ∷ never ∷ never ∷ never ∷ []) []
 unfolding reasonChecked reasonNet checkNet legalPrefix distances levels level arcs reasonStates descend next firsts reasonList
 not-supported-and-no-room = refl
@@ -76,25 +72,25 @@ unfolding reasonChecked reasonNet checkNet legalPrefix distances levels level ar
 object-in-no-second-part = refl
 
 -- Sign 2 is row 4; it comes before a short scratch.
-pub sign-above-one : reasoned 2 4 m 0 5 2 [] []
+pub sign-above-one : reasoned 2 4 M 0 5 2 [] []
     ≡ reason (Refused BadQuestion) [] []
 unfolding reasonChecked reasonNet checkNet legalPrefix distances levels level arcs reasonStates descend next firsts reasonList
 sign-above-one = refl
 
 -- So does a start that is no node.
-pub no-such-node : reasoned 2 4 m 6 5 0 [] []
+pub no-such-node : reasoned 2 4 M 6 5 0 [] []
     ≡ reason (Refused BadQuestion) [] []
 unfolding reasonChecked reasonNet checkNet legalPrefix distances levels level arcs reasonStates descend next firsts reasonList
 no-such-node = refl
 
 -- So does an end that is an object.
-pub no-kind : reasoned 2 4 m 0 1 0 [] []
+pub no-kind : reasoned 2 4 M 0 1 0 [] []
     ≡ reason (Refused BadQuestion) [] []
 unfolding reasonChecked reasonNet checkNet legalPrefix distances levels level arcs reasonStates descend next firsts reasonList
 no-kind = refl
 
 -- A scratch of 2N − 1 places is row 5; it comes before a short list.
-pub scratch-too-short : reasoned 2 4 m 0 5 1 (replicate 11 7) []
+pub scratch-too-short : reasoned 2 4 M 0 5 1 (replicate 11 7) []
     ≡ reason (Refused ShortBuffer) (replicate 11 7) []
 unfolding reasonChecked reasonNet checkNet legalPrefix distances levels level arcs reasonStates descend next firsts reasonList
 scratch-too-short = refl

@@ -1,4 +1,4 @@
--- Equal answers have one row.
+-- Equal answers have one row, and one row is held by one struct.
 use mathlib.Core.Path.{_≡_, sym, ap, subst, _∙_}
 use Rattle.words.specs.Table.{Row}
 use Rattle.rows.specs.Given.{given, Fits}
@@ -13,3 +13,7 @@ module _ {A : Type 0} (f : A → Row) {a v : A} (e : a ≡ v) where
   -- Where a's values fit, v's do.
   pub carry-fits : Fits (f a) → Fits (f v)
   carry-fits = subst (λ (u : A). Fits (f u)) e
+
+-- Two structs that hold one row are the same.
+pub given-one-to-one : (r q : Given) → given r ≡ given q → r ≡ q
+given-one-to-one r q e = λ i. record { number = e i .number; first = e i .first; second = e i .second }

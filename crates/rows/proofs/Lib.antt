@@ -1,3 +1,2 @@
 pub mod Carrying
 pub mod Fitting
-pub mod Operations

@@ -2,26 +2,27 @@
 ghost use mathlib.Core.Path.{_≡_};
 ghost use Rattle.words.specs.Table.{checkNet, checkedRow};
 ghost use Rattle.machine.specs.Scanning.{forwardScanned, kindScanned, scanRow};
-ghost use Rattle.answers.specs.Table.{questioned, askedRow, clashedBy, clashedRow};
+ghost use Rattle.answers.specs.Table.{questioned, askedRow};
+ghost use Rattle.clashes.specs.Table.{clashedBy, clashedRow};
 ghost use Rattle.completion.specs.Table.{completedBy, completedRow};
 ghost use Rattle.reasons.specs.Table.{reasoned, reasonedRow};
 ghost use Rattle.checks.specs.Table.{verdict, verdictRow};
 ghost use Rattle.rows.specs.Given.{given};
 use answers::ask_question;
-use answers::find_clash;
 use checks::check_reason;
+use clashes::find_clash;
 use completion::complete_net;
+use gives::asked_given;
+use gives::clashed_given;
+use gives::completed_given;
+use gives::reasoned_given;
+use gives::scanned_given;
+use gives::verdict_given;
 use machine::forward_scan;
 use machine::kind_scan;
 use reasons::find_reason;
 use rows::Given;
-use rows::asked_given;
 use rows::checked_given;
-use rows::clashed_given;
-use rows::completed_given;
-use rows::reasoned_given;
-use rows::scanned_given;
-use rows::verdict_given;
 use words::check_net;
 
 // The check of a net.

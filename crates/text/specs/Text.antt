@@ -1,27 +1,16 @@
 -- The text that `ask` prints for a file.
-use Prim.Native.Nat.{ℕ, zero, suc, _-_, _/_}
-use mathlib.Core.List.{List, [], _++_}
+use Prim.Native.Nat.{ℕ, _-_, _/_}
+use mathlib.Core.List.{List}
 use lib.ListN.{length, take, drop}
-use Rattle.theory.specs.Marks.{blank}
-use Rattle.words.specs.Table.{checkNet, refusalRow}
-use Rattle.words.specs.declared.Checked.{Checked}
-use Rattle.words.specs.declared.Checked.the-variants as checked
-use Rattle.answers.specs.Table.{questioned}
-use Rattle.netfile.specs.Contents.{u16At, u32At, u32s, contentsOf, contentsRow}
+use Rattle.words.specs.Table.{checkNet}
+use Rattle.numbers.specs.Bytes.{u32At, u32s}
+use Rattle.netfile.specs.Contents.{contentsOf, contentsRow}
 use Rattle.netfile.specs.declared.Contents.{Contents}
 use Rattle.netfile.specs.declared.Contents.the-variants.{Bodies, Malformed}
-use Rattle.lines.specs.Line.{decimal, field, lastField, fileWord, netWord, lineOf}
-
--- The lines of the first j questions of a body.
-unfoldable pub linesOf : ℕ → ℕ → List ℕ → ℕ → List ℕ → List ℕ
-linesOf o k ws zero b = []
-linesOf o k ws (suc j) b =
-    lineOf (u16At b 0) (u16At b 2) (questioned o k ws (u16At b 0) (u16At b 2) (blank 1024) .answer) ++ linesOf o k ws j (drop 4 b)
-
--- The text for a net: a line for each question, or its number and index.
-unfoldable pub netText : ℕ → ℕ → List ℕ → List ℕ → Checked → List ℕ
-netText o k ws b (checked.Nodes n) = linesOf o k ws (length b / 4) b
-netText o k ws b (checked.Refused r) = field netWord (field (decimal (refusalRow r .number)) (lastField (decimal (refusalRow r .first))))
+use Rattle.replies.specs.Replies.{netText}
+use Rattle.fields.specs.Decimal.{decimal}
+use Rattle.endings.specs.Ending.{field, lastField}
+use Rattle.lines.specs.Line.{fileWord}
 
 -- The text for the bodies of a file.
 abbrev pub bodiesText : List ℕ → List ℕ → List ℕ → List ℕ

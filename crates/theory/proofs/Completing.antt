@@ -1,22 +1,21 @@
 -- The computed completion is the completed list, and no other list is.
 use Prim.Native.Nat.{ℕ, zero, suc, _+_, _*_, _≤_, _<_}
-use mathlib.Core.Path.{_≡_, refl, subst, sym, _∙_, ap}
+use mathlib.Core.Path.{_≡_, refl, subst, sym}
 use mathlib.Core.Bool.{Bool, true, false, cond}
-use mathlib.Core.List.{List, [], _∷_, _++_, List·Memᴰ, List·Memᴰ·head, List·Memᴰ·tail, List·Memᴰ·cases-cons, List·Memᴰ·append-cases, Memᴰ·append-left, Memᴰ·append-right}
-use mathlib.Core.Logic.{_⊎_, inl, inr, _↔_, ⊎-elim}
+use mathlib.Core.List.{List, [], _∷_, _++_, List·Memᴰ, List·Memᴰ·head, List·Memᴰ·cases-cons, List·Memᴰ·append-cases, Memᴰ·append-left, Memᴰ·append-right}
+use mathlib.Core.Logic.{_⊎_, _↔_, ⊎-elim}
 use native.Mathlib.Omega.{arith}
 use native.Mathlib.Decide.{ℕ-discrete}
-use lib.ListN.{length, getD}
+use lib.ListN.{getD}
 use Rattle.theory.specs.Words.{Sign, is, isnt, word, tailOf, headOf, signOf}
-use Rattle.theory.specs.Nets.{Kind, Links, LegalWords, Net}
+use Rattle.theory.specs.Nets.{Kind, Links, Net}
 use Rattle.theory.specs.Support.{Supported}
-use Rattle.theory.specs.Marks.{T, F, has}
+use Rattle.theory.specs.Marks.{T, F, has, markerOf, At}
 use Rattle.theory.specs.Completion.{Ascending, Completed, fullMarks, cell, row, rows, complete}
-use Rattle.theory.proofs.Machine.{At}
 use Rattle.theory.proofs.Inside.{legal-links}
 use Rattle.theory.proofs.Joining.{ends}
 use Rattle.theory.proofs.Bounds.{forward-done}
-use Rattle.theory.proofs.Sides.{markerOf, forward-exact}
+use Rattle.theory.proofs.Sides.{forward-exact}
 use Rattle.theory.proofs.Ascending.{tail-word, head-word, sign-word, word-of-parts, ascending-from, ascending-append, ascending-same}
 
 -- The relation has one outcome.

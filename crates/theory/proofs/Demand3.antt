@@ -1,22 +1,19 @@
 -- Demand 3 over lists of words, with the limits: nets are accepted by rows 1, 2 and 3, and so are the joined lists.
-use Prim.Native.Nat.{ℕ, zero, suc, _+_, _*_, _≤_, _<_}
-use mathlib.Core.Path.{_≡_, refl, subst, sym, _∙_, ap}
-use mathlib.Core.Bool.{Bool}
+use Prim.Native.Nat.{ℕ, suc, _+_, _≤_, _<_}
+use mathlib.Core.Path.{_≡_, refl, sym, _∙_, ap}
 use mathlib.Core.List.{List, [], _∷_, _++_, append-nil, List·Memᴰ, List·Memᴰ·head, List·Memᴰ·tail, List·Memᴰ·append-cases, Memᴰ·append-left, Memᴰ·append-right}
 use mathlib.Core.Logic.{_⊎_, inl, inr, _↔_, ⊎-elim}
 use native.Mathlib.Omega.{arith}
-use lib.ListN.{length, getD, length-append}
+use lib.ListN.{length, getD}
 use Rattle.laws.proofs.Booleans.{same-test}
-use Rattle.theory.specs.Words.{Sign, word, tailOf, headOf, signOf, signAt, wordLimit}
-use Rattle.theory.specs.Nets.{Statements, Kind, Links, LegalWords, Legal, Net}
+use Rattle.theory.specs.Words.{Sign, word, tailOf, signOf, signAt, wordLimit}
+use Rattle.theory.specs.Nets.{Kind, Links, LegalWords, Net}
 use Rattle.theory.specs.Support.{Supported, link}
-use Rattle.theory.specs.Marks.{has}
+use Rattle.theory.specs.Marks.{has, markerOf, At}
 use Rattle.theory.specs.Completion.{Ascending, Completed, fullMarks, complete}
-use Rattle.theory.proofs.Machine.{At}
 use Rattle.theory.proofs.Inside.{legal-links}
 use Rattle.theory.proofs.Joining.{Sub, Join, into, monotone, beside, ends, elsewhere}
-use Rattle.theory.proofs.Sides.{markerOf}
-use Rattle.theory.proofs.Ascending.{tail-word, head-word, parity-word, sign-word, sign-at-number, ascending-low}
+use Rattle.theory.proofs.Ascending.{tail-word, head-word, parity-word, sign-word, sign-at-number}
 use Rattle.theory.proofs.Completing.{completed-unique, complete-completed, full-exact}
 
 -- ── the links of joined lists ──

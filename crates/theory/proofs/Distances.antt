@@ -21,7 +21,7 @@ route-into E F f t s [] r = r
 route-into E F f t s (b ∷ p) r = (f s b (r .0), route-into E F f t b p (r .1))
 
 -- Distances over the same moves are the same.
-distance-into : (E F : ℕ → ℕ → Type 0) → ((a b : ℕ) → E a b → F a b) → ((a b : ℕ) → F a b → E a b) → (t s d : ℕ) → Distance E t s d → Distance F t s d
+pub distance-into : (E F : ℕ → ℕ → Type 0) → ((a b : ℕ) → E a b → F a b) → ((a b : ℕ) → F a b → E a b) → (t s d : ℕ) → Distance E t s d → Distance F t s d
 distance-into E F f g t s d (reached h p r e w) = reached h p (route-into E F f t s p r) e (λ q u. w q (route-into F E g t s q u))
 distance-into E F f g t s d (lost e w) = lost e (λ q u. w q (route-into F E g t s q u))
 

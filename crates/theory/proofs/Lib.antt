@@ -29,9 +29,9 @@ pub mod Shortest
 pub mod Reason
 pub mod Halves
 pub mod Searching
-pub mod Deciding
 pub mod Steps
 pub mod Check
 pub mod Demand3
 pub mod Readings
 pub mod Loss
+pub mod Bytes

@@ -1,19 +1,18 @@
 -- What the report's downscan loses: on net M it leaves out both F, so it does not mark all that the rules support.
-use Prim.Native.Nat.{ℕ, zero, suc, _+_, _<_}
-use mathlib.Core.Path.{_≡_, refl, sym, _∙_}
-use mathlib.Core.Bool.{Bool, true, false}
-use mathlib.Core.List.{List, [], _∷_, List·Memᴰ, List·Memᴰ·head, List·Memᴰ·tail, List·Memᴰ·cases-cons}
+use Prim.Native.Nat.{ℕ, _+_, _<_}
+use mathlib.Core.Path.{_≡_, refl}
+use mathlib.Core.Bool.{true}
+use mathlib.Core.List.{List, [], _∷_, List·Memᴰ·head, List·Memᴰ·tail, List·Memᴰ·cases-cons}
 use mathlib.Core.Logic.{⊎-elim}
 use native.Mathlib.Omega.{arith}
 use Rattle.laws.proofs.Booleans.{clash}
-use Rattle.theory.specs.Words.{is, isnt}
+use Rattle.theory.specs.Words.{isnt}
 use Rattle.theory.specs.Nets.{Kind, Links, LegalWord, LegalWords, Net}
 use Rattle.theory.specs.Support.{Supported, link, r3, r4}
-use Rattle.theory.specs.Marks.{F, mark, link as markLink, links, command, round}
-use Rattle.theory.specs.Scans.{same, Scan, rounds}
+use Rattle.theory.specs.Marks.{F, mark, link as markLink, links, command, round, At}
+use Rattle.theory.specs.Scans.{same, rounds}
 use Rattle.theory.specs.Downscan.{downscan}
-use Rattle.theory.proofs.Machine.{At}
-use Rattle.theory.proofs.Readings.{M}
+use Rattle.theory.specs.NetM.{M}
 
 -- A word in front of legal words.
 pub legal-cons : (o k w : ℕ) (ws : List ℕ) → LegalWord o k w → LegalWords o k ws → LegalWords o k (w ∷ ws)

@@ -1,25 +1,21 @@
 -- The marker machine: what any list of commands marks is sound and, once a round sets nothing, closed.
-use Prim.Native.Nat.{ℕ, zero, suc, _+_, _%_, _≤_, _<_}
+use Prim.Native.Nat.{ℕ, zero, suc, _%_, _≤_, _<_}
 use mathlib.Core.Path.{_≡_, refl, subst, sym, _∙_, ap}
-use mathlib.Core.Bool.{Bool, true, false, cond, _&&_, _||_}
+use mathlib.Core.Bool.{Bool, true, false, _&&_, _||_}
 use mathlib.Core.List.{List, [], _∷_, List·Memᴰ, List·Memᴰ·head, List·Memᴰ·tail}
 use native.Mathlib.Omega.{arith}
 use lib.Dec.{eqb}
 use lib.ListN.{length, getD}
 use borrow.Author.Tests.{eqb-true, eq-eqb}
-use Rattle.laws.proofs.Booleans.{clash, and-left, and-right, and-both, or-split, or-true}
-use Rattle.theory.specs.Words.{Sign, is, isnt, number, tailOf, headOf, parity, signAt}
+use Rattle.laws.proofs.Booleans.{clash, and-left, and-right, or-split, or-true}
+use Rattle.theory.specs.Words.{Sign, number, parity, signAt}
 use Rattle.theory.specs.Nets.{Statements, Links}
-use Rattle.theory.specs.Marks.{has, near, far, fires, command, round}
+use Rattle.theory.specs.Marks.{At, has, near, far, fires, command, round}
 use Rattle.theory.specs.Scans.{after}
 use Rattle.theory.specs.declared.Command.{Command}
 use Rattle.theory.proofs.Inside.{Inside}
 use Rattle.theory.proofs.Growth.{Step, Puts, step-none, step-then, command-step, round-step}
 use Rattle.theory.proofs.Commands.{any, hits, command-at}
-
--- Node v has marker j.
-abbrev pub At : List ℕ → ℕ → ℕ → Type 0
-At m j v = has j (getD m v 0) ≡ true
 
 -- All the marks of m stand in P.
 abbrev pub Within : (ℕ → ℕ → Type 0) → List ℕ → Type 0

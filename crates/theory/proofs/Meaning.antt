@@ -1,20 +1,20 @@
 -- What the marks of the two scans mean: after any number of rounds they are supported, and once a round sets nothing they are all that is.
-use Prim.Native.Nat.{ℕ, zero, suc, _+_, _*_, _≤_, _<_}
-use mathlib.Core.Path.{_≡_, refl, subst, sym, _∙_, ap}
-use mathlib.Core.List.{List, [], _∷_}
+use Prim.Native.Nat.{ℕ, zero, suc, _+_, _≤_, _<_}
+use mathlib.Core.Path.{_≡_, refl, subst, sym}
+use mathlib.Core.List.{List}
 use mathlib.Core.Logic.{_⊎_, inl, inr, _↔_, ⊎-elim}
 use native.Mathlib.Omega.{arith}
-use lib.ListN.{length, getD}
+use lib.ListN.{length}
 use Rattle.theory.specs.Words.{Sign, is, isnt, number}
 use Rattle.theory.specs.Nets.{Statements, Kind, Links, LegalWords}
 use Rattle.theory.specs.Support.{Supported}
 use Rattle.theory.specs.Paths.{Crossing}
-use Rattle.theory.specs.Marks.{T, F, U, forward, kindly, round, forwardStart, kindStart}
+use Rattle.theory.specs.Marks.{T, F, U, forward, kindly, round, forwardStart, kindStart, At}
 use Rattle.theory.specs.Scans.{after}
 use Rattle.theory.proofs.Reach.{Up, here, step, Apart, trans, turn, ends-in, supported-is-reached}
 use Rattle.theory.proofs.Joining.{ends}
 use Rattle.theory.proofs.Inside.{Inside, legal-inside, legal-links}
-use Rattle.theory.proofs.Machine.{At, Within, Follows, Every, quiet-closed, after-long, after-keeps, sound}
+use Rattle.theory.proofs.Machine.{Within, Follows, Every, quiet-closed, after-long, after-keeps, sound}
 use Rattle.theory.proofs.Starts.{forward-long, kind-long, forward-within, kind-within, forward-has, kind-has-T, kind-has-U, forward-puts-8, kindly-puts-8}
 
 -- ── what is carried along a chain of links ──

@@ -1,17 +1,13 @@
 -- Readings of the definitions by computation, on net M.
-use Prim.Native.Nat.{ℕ}
 use mathlib.Core.Path.{_≡_, refl}
-use mathlib.Core.Bool.{Bool, true, false}
-use mathlib.Core.List.{List, [], _∷_}
-use Rattle.theory.specs.Words.{is, isnt}
+use mathlib.Core.Bool.{true, false}
+use mathlib.Core.List.{[], _∷_}
+use Rattle.theory.specs.Words.{isnt}
 use Rattle.theory.specs.Marks.{mark, link, links, command, round}
-use Rattle.theory.specs.Scans.{same, Scan, rounds, forwardScan, kindScan}
+use Rattle.theory.specs.Scans.{same, rounds, forwardScan, kindScan}
 use Rattle.theory.specs.Completion.{row, rows, complete}
 use Rattle.theory.specs.Searches.{arcs, level, levels, distances, next, descend, reasonStates, firsts, reasonList}
-
--- Net M: 2 objects, 4 kinds.
-abbrev pub M : List ℕ
-M = 4 ∷ 2058 ∷ 4103 ∷ 8198 ∷ 10248 ∷ []
+use Rattle.theory.specs.NetM.{M}
 
 pub forward-5 : forwardScan 6 M 0 5 ≡ record { done = true; count = 5; marks = 1 ∷ 2 ∷ 1 ∷ 2 ∷ 2 ∷ 2 ∷ [] }
 unfolding rounds round command links link mark same

@@ -40,7 +40,7 @@ unfolding reasonList
 reason-length n s ws x y = omega (arith, length-map (reasonStates n s ws x y) (nodeOf n), states-length n s ws x y)
 
 -- The best route over the moves listed is the best over the moves.
-best-into : (E F : ℕ → ℕ → Type 0) → ((a b : ℕ) → E a b → F a b) → ((a b : ℕ) → F a b → E a b) → (t s : ℕ) (p : List ℕ) → Best E t s p → Best F t s p
+pub best-into : (E F : ℕ → ℕ → Type 0) → ((a b : ℕ) → E a b → F a b) → ((a b : ℕ) → F a b → E a b) → (t s : ℕ) (p : List ℕ) → Best E t s p → Best F t s p
 best-into E F f g t s p b = record {
   route = route-into E F f t s p (b .route);
   fewest = λ q r. b .fewest q (route-into F E g t s q r);
@@ -81,7 +81,7 @@ module _ (o k : ℕ) (ws : List ℕ) (net : Net o k ws) (x : ℕ) (node : x < o 
           let (xs, ys, e, p) = route-strict o k (Links ws) legal x y s node (kind .high) q r in
           lemma1 o k (Links ws) legal x y s .1 (xs, ys, strict-shows o k (Links ws) x y s xs ys kind p)
 
-  states-best : getD (distances n s ws y) x never < never → Best (Moves n (Links ws) s) (goal n s y) x (reasonStates n s ws x y)
+  pub states-best : getD (distances n s ws y) x never < never → Best (Moves n (Links ws) s) (goal n s y) x (reasonStates n s ws x y)
   unfolding reasonStates
   states-best h =
       best-into (Among (arcs n s ws)) (Moves n (Links ws) s) (arcs-moves n s ws) (λ a b. moves-arcs n ws) (goal n s y) x _

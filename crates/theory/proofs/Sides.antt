@@ -1,25 +1,18 @@
 -- Scans that ended say exactly what is supported, and the scan from the subject and the scan from the kind agree.
-use Prim.Native.Nat.{ℕ, zero, suc, _+_, _*_, _≤_, _<_}
-use mathlib.Core.Path.{_≡_, refl, subst, sym, _∙_, ap}
-use mathlib.Core.Bool.{Bool, true, false}
+use Prim.Native.Nat.{ℕ, _+_, _<_}
+use mathlib.Core.Path.{_≡_}
+use mathlib.Core.Bool.{true, false}
 use mathlib.Core.List.{List}
 use mathlib.Core.Logic.{_↔_}
-use native.Mathlib.Omega.{arith}
 use lib.ListN.{getD}
 use Rattle.laws.proofs.Booleans.{same-test}
 use Rattle.theory.specs.Words.{Sign, is, isnt}
 use Rattle.theory.specs.Nets.{Kind, Links, LegalWords}
 use Rattle.theory.specs.Support.{Supported}
-use Rattle.theory.specs.Marks.{T, F, U, has, forward, kindly, forwardStart, kindStart}
-use Rattle.theory.specs.Scans.{Scan, after, forwardScan, kindScan}
-use Rattle.theory.proofs.Machine.{At}
+use Rattle.theory.specs.Marks.{U, has, markerOf, forward, kindly, forwardStart, kindStart, At}
+use Rattle.theory.specs.Scans.{forwardScan, kindScan}
 use Rattle.theory.proofs.Meaning.{forward-yes, forward-no, forward-sound-yes, forward-sound-no, kind-yes, kind-no, kind-up, kind-sound-yes, kind-sound-no, kind-sound-up}
-use Rattle.theory.proofs.Budgets.{Last, last-round, spent-marks}
-
--- The marker that answers for a sign.
-abbrev pub markerOf : Sign → ℕ
-markerOf is = T
-markerOf isnt = F
+use Rattle.theory.proofs.Budgets.{last-round, spent-marks}
 
 module _ (o k : ℕ) (ws : List ℕ) (legal : LegalWords o k ws) where
   module _ (x : ℕ) (hx : x < o + k) (b : ℕ) where

@@ -1,18 +1,18 @@
 -- The marks at the start of a scan, and what any scan from them keeps.
-use Prim.Native.Nat.{ℕ, zero, suc, _+_, _^_, _≤_, _<_}
+use Prim.Native.Nat.{ℕ, zero, suc, _^_, _<_}
 use mathlib.Core.Path.{_≡_, refl, subst, sym, _∙_, ap}
-use mathlib.Core.Bool.{Bool, true, false, _&&_, _||_}
-use mathlib.Core.List.{List, [], _∷_}
+use mathlib.Core.Bool.{Bool, false, _&&_, _||_}
+use mathlib.Core.List.{List}
 use native.Mathlib.Omega.{arith}
 use native.Mathlib.Nat.{zero-div}
 use lib.Dec.{eqb}
 use lib.ListN.{length, getD, length-replicate}
 use borrow.Author.Tests.{eqb-true, eq-eqb}
 use Rattle.laws.proofs.Booleans.{clash, and-left, and-right, or-split, or-true}
-use Rattle.theory.specs.Marks.{T, F, U, has, mark, blank, forward, kindly, forwardStart, kindStart}
+use Rattle.theory.specs.Marks.{T, U, has, mark, blank, forward, kindly, forwardStart, kindStart, At}
 use Rattle.theory.proofs.Growth.{Puts}
 use Rattle.theory.proofs.Commands.{mark-at, mark-length}
-use Rattle.theory.proofs.Machine.{At, Within}
+use Rattle.theory.proofs.Machine.{Within}
 
 pub blank-byte : (n z : ℕ) → getD (blank n) z 0 ≡ 0
 blank-byte zero z = refl

@@ -9,3 +9,4 @@ pub mod Completion
 pub mod Reasons
 pub mod Searches
 pub mod Checks
+pub mod NetM

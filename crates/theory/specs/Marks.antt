@@ -1,11 +1,12 @@
 -- Marks, one byte a node; marker commands over the links; rounds; where a scan starts.
 use Prim.Native.Nat.{ℕ, _/_, _%_, _^_}
+use mathlib.Core.Path.{_≡_}
 use mathlib.Core.Bool.{Bool, true, false, cond, _&&_}
 use mathlib.Core.List.{List, [], _∷_}
 use lib.Dec.{eqb}
 use lib.ListN.{getD, set, replicate}
 use lib.Bits.{bitOr}
-use Rattle.theory.specs.Words.{tailOf, headOf, parity}
+use Rattle.theory.specs.Words.{Sign, is, isnt, tailOf, headOf, parity}
 use Rattle.theory.specs.declared.Command.{Command}
 
 -- The markers T, F and U: marker j of a byte, 0 to 7, is worth 2 ^ j, so these are 1, 2 and 4.
@@ -21,6 +22,15 @@ U = 2
 -- A byte has marker j.
 abbrev pub has : ℕ → ℕ → Bool
 has j b = eqb (b / 2 ^ j % 2) 1
+
+-- The marks have marker j at node v.
+abbrev pub At : List ℕ → ℕ → ℕ → Type 0
+At m j v = has j (getD m v 0) ≡ true
+
+-- The marker for a sign: T for →, F for ↛.
+abbrev pub markerOf : Sign → ℕ
+markerOf is = T
+markerOf isnt = F
 
 -- A byte with marker j besides.
 abbrev pub with : ℕ → ℕ → ℕ

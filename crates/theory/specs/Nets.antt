@@ -37,7 +37,7 @@ pub record Net (o k : ℕ) (ws : List ℕ) : Type 0 where
   pub short : length ws ≤ wordLimit
   pub legal : LegalWords o k ws
 
--- The same of a set of statements: tails are nodes and heads kinds.
+-- The same as `LegalWords` of a set of statements: tails are nodes and heads kinds.
 pub record Legal (o k : ℕ) (L : Statements) : Type 0 where
   pub tail : (x y : ℕ) (s : Sign) → L x y s → x < o + k
   pub head : (x y : ℕ) (s : Sign) → L x y s → Kind o k y

@@ -27,7 +27,7 @@ badPair o n x y = leb n x || (ltb y o || leb n y)
 abbrev pub badStatement : ℕ → ℕ → ℕ → ℕ → ℕ → Bool
 badStatement o n x y sign = badPair o n x y || ltb 1 sign
 
--- What the paper gives for an answer: its number, and up to two values, 0 where it names none.
+-- An answer as a row of the number table: its number and up to two values, 0 where none is named.
 pub record Row : Type 0 where
   pub number : ℕ
   pub first : ℕ
@@ -44,7 +44,7 @@ refusalRow (IllegalWord i) = row 3 i 0
 refusalRow BadQuestion = row 4 0 0
 refusalRow ShortBuffer = row 5 0 0
 
--- The row of each answer of the check of a net: 0 with the number of nodes, or the refusal's.
+-- The row of each answer of the check of a net: 0, to which this project adds the number of nodes, or the refusal's.
 abbrev pub checkedRow : Checked → Row
 checkedRow (Nodes n) = row 0 n 0
 checkedRow (Refused r) = refusalRow r

@@ -4,7 +4,7 @@ use mathlib.Core.Path.{_≡_, refl}
 use borrow.Author.Needs.{needs}
 use native.Mathlib.Omega.{arith}
 use lib.ListN.{length, length-set}
-use Rattle.commands.specs.Asks.{Agree}
+use Rattle.commands.specs.Copies.{Agree}
 use Rattle.commands.proofs.Copies.{agree-more}
 use Rattle.commands.proofs.copied.Statement.{statement}
 use Rattle.commands.proofs.copied.Tie as tie

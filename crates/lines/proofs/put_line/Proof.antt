@@ -3,11 +3,12 @@ use Prim.Native.Nat.{_+_, _≤_}
 use mathlib.Core.List.{[], _∷_, _++_}
 use native.Mathlib.Omega.{arith}
 use lib.ListN.{length}
-use Rattle.lines.specs.Writing.{Wrote}
-use Rattle.lines.proofs.Writing.{rejoined, room, wrote-more, wrote-as}
-use Rattle.lines.specs.Line.{decimal}
-use Rattle.lines.proofs.Decimals.{few-digits}
-use Rattle.lines.proofs.Fields.{node-room, pair-room, answer-room, line-joins, line-room}
+use Rattle.fields.specs.Writing.{Wrote}
+use Rattle.fields.proofs.Writing.{rejoined, room, wrote-more, wrote-as}
+use Rattle.fields.specs.Decimal.{decimal}
+use Rattle.fields.proofs.Decimals.{few-digits}
+use Rattle.lines.proofs.Fields.{node-room, pair-room, line-joins, line-room}
+use Rattle.endings.proofs.Ends.{answer-room}
 use borrow.Author.Needs.{needs}
 use Rattle.lines.proofs.put_line.Statement.{statement}
 use Rattle.lines.proofs.put_line.Tie as tie

@@ -3,11 +3,12 @@ use Prim.Native.Nat.{_+_, _≤_}
 use mathlib.Core.List.{[], _∷_, _++_}
 use native.Mathlib.Omega.{arith}
 use lib.ListN.{length}
-use Rattle.lines.specs.Writing.{Wrote}
-use Rattle.lines.proofs.Writing.{rejoined, room, wrote-more, wrote-as}
-use Rattle.lines.specs.Line.{decimal}
-use Rattle.lines.proofs.Decimals.{most-digits}
-use Rattle.lines.proofs.Fields.{word-space, number-room, report-room, report-joins}
+use Rattle.fields.specs.Writing.{Wrote}
+use Rattle.fields.proofs.Writing.{rejoined, room, wrote-more, wrote-as}
+use Rattle.fields.specs.Decimal.{decimal}
+use Rattle.fields.proofs.Decimals.{most-digits}
+use Rattle.endings.proofs.Ends.{word-space, number-room}
+use Rattle.lines.proofs.Fields.{report-room, report-joins}
 use borrow.Author.Needs.{needs}
 use Rattle.lines.proofs.put_report.Statement.{statement}
 use Rattle.lines.proofs.put_report.Tie as tie

@@ -1,9 +1,9 @@
 -- The answer of the clash test as a row, and the marks that it leaves.
 use mathlib.Core.Path.{sym, ap}
 use borrow.Author.Needs.{needs}
-use Rattle.answers.specs.Table.{Clash}
+use Rattle.clashes.specs.Table.{Clash}
 use Rattle.rows.proofs.Carrying.{carry-given, carry-fits}
-use Rattle.rows.proofs.Operations.{clashGives, clash-fits}
+use Rattle.gives.proofs.Operations.{clashGives, clash-fits}
 use Rattle.strumelka.proofs.strumelka_clash.Statement.{statement}
 use Rattle.strumelka.proofs.strumelka_clash.Tie as tie
 

@@ -3,7 +3,7 @@ use mathlib.Core.Path.{sym, ap}
 use borrow.Author.Needs.{needs}
 use Rattle.completion.specs.Table.{Completion}
 use Rattle.rows.proofs.Carrying.{carry-given, carry-fits}
-use Rattle.rows.proofs.Operations.{completionGives, completion-fits}
+use Rattle.gives.proofs.Operations.{completionGives, completion-fits}
 use Rattle.strumelka.proofs.strumelka_completion.Statement.{statement}
 use Rattle.strumelka.proofs.strumelka_completion.Tie as tie
 

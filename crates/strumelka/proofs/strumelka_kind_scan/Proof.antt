@@ -5,7 +5,7 @@ use native.Mathlib.Omega.{arith}
 use borrow.Author.Needs.{needs}
 use Rattle.machine.specs.Scanning.{Outcome}
 use Rattle.rows.proofs.Carrying.{carry-given, carry-fits}
-use Rattle.rows.proofs.Operations.{scanGives, scan-fits}
+use Rattle.gives.proofs.Operations.{scanGives, scan-fits}
 use Rattle.strumelka.proofs.strumelka_kind_scan.Statement.{statement}
 use Rattle.strumelka.proofs.strumelka_kind_scan.Tie as tie
 

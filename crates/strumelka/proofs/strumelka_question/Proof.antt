@@ -3,7 +3,7 @@ use mathlib.Core.Path.{sym, ap}
 use borrow.Author.Needs.{needs}
 use Rattle.answers.specs.Table.{Question}
 use Rattle.rows.proofs.Carrying.{carry-given, carry-fits}
-use Rattle.rows.proofs.Operations.{questionGives, question-fits}
+use Rattle.gives.proofs.Operations.{questionGives, question-fits}
 use Rattle.strumelka.proofs.strumelka_question.Statement.{statement}
 use Rattle.strumelka.proofs.strumelka_question.Tie as tie
 

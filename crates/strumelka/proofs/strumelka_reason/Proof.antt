@@ -3,7 +3,7 @@ use mathlib.Core.Path.{sym, ap}
 use borrow.Author.Needs.{needs}
 use Rattle.reasons.specs.Table.{Reason}
 use Rattle.rows.proofs.Carrying.{carry-given, carry-fits}
-use Rattle.rows.proofs.Operations.{reasonGives, reason-fits}
+use Rattle.gives.proofs.Operations.{reasonGives, reason-fits}
 use Rattle.strumelka.proofs.strumelka_reason.Statement.{statement}
 use Rattle.strumelka.proofs.strumelka_reason.Tie as tie
 

@@ -3,7 +3,7 @@ use mathlib.Core.Path.{sym}
 use borrow.Author.Needs.{needs}
 use Rattle.checks.specs.Table.{verdictRow}
 use Rattle.rows.proofs.Carrying.{carry-given, carry-fits}
-use Rattle.rows.proofs.Operations.{verdict-fits}
+use Rattle.gives.proofs.Operations.{verdict-fits}
 use Rattle.strumelka.proofs.strumelka_reason_check.Statement.{statement}
 use Rattle.strumelka.proofs.strumelka_reason_check.Tie as tie
 

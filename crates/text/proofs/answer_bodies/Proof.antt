@@ -1,6 +1,6 @@
 -- `answer_bodies`: the words are read, and the net answered with them.
 use native.Mathlib.Omega.{arith}
-use Rattle.lines.proofs.Writing.{wrote-as}
+use Rattle.fields.proofs.Writing.{wrote-as}
 use Rattle.text.proofs.Whole.{first-words, words-read, bodies-joined}
 use borrow.Author.Needs.{needs}
 use Rattle.text.proofs.answer_bodies.Statement.{statement}

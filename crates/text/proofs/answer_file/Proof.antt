@@ -2,7 +2,7 @@
 use mathlib.Core.List.{[]}
 use native.Mathlib.Omega.{arith}
 use denote.Ref.{now}
-use Rattle.lines.proofs.Writing.{wrote-as}
+use Rattle.fields.proofs.Writing.{wrote-as}
 use Rattle.text.proofs.Whole.{handed, file-report}
 use borrow.Author.Needs.{needs}
 use Rattle.text.proofs.answer_file.Statement.{statement}

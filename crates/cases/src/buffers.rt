@@ -1,0 +1,128 @@
+// The two buffers of a case: as they are before, in the widths that an operation takes, taken back as numbers, and printed.
+use crate::operations::Case;
+use crate::operations::FIRST;
+use crate::operations::Operation;
+use crate::operations::SECOND;
+use crate::places::bytes_between;
+use crate::places::halves_before;
+use crate::places::number_at;
+use crate::places::numbers_from;
+use crate::show::show;
+use crate::show::show_list;
+use crate::widths::copy;
+use crate::widths::fill;
+use crate::widths::from_bytes;
+use crate::widths::from_halves;
+use crate::widths::to_bytes;
+use crate::widths::to_halves;
+
+// Where the second buffer begins, after room for the first, and the size of the text of `ask`.
+pub const SECOND_BUFFER: usize = 32769;
+
+pub const TEXT_SIZE: usize = 262144;
+
+// Whether an operation is lent its first buffer to write in.
+fn writes_first(operation: Operation) -> bool {
+    match operation {
+        Operation::CheckNet => false,
+        Operation::ReasonCheck => false,
+        Operation::File => false,
+        Operation::Ask => false,
+        _ => true,
+    }
+}
+
+// Whether an operation is lent a second buffer to write in.
+fn writes_second(operation: Operation) -> bool {
+    match operation {
+        Operation::Completion => true,
+        Operation::Reason => true,
+        Operation::Ask => true,
+        _ => false,
+    }
+}
+
+// The size of the second buffer: the text of `ask` always has the same.
+fn second_size(operation: Operation, case: Case) -> usize {
+    match operation {
+        Operation::Ask => TEXT_SIZE,
+        _ => case.second,
+    }
+}
+
+// Puts the buffers of a case, as they are before, where an engine takes them.
+pub fn load(operation: Operation, case: Case, store: &[u32], buffers: &mut [u32]) {
+    copy(numbers_from(store, FIRST, case.first), buffers, 0);
+    copy(
+        numbers_from(store, SECOND, case.second),
+        buffers,
+        SECOND_BUFFER,
+    );
+    match operation {
+        Operation::Ask => fill(
+            buffers,
+            SECOND_BUFFER,
+            SECOND_BUFFER + TEXT_SIZE,
+            number_at(store, 0),
+        ),
+        _ => (),
+    }
+}
+
+// Marks and a list, as they are in the two buffers.
+pub fn lend_list(first: usize, second: usize, buffers: &[u32], marks: &mut [u8], list: &mut [u32]) {
+    to_bytes(numbers_from(buffers, 0, first), marks);
+    copy(numbers_from(buffers, SECOND_BUFFER, second), list, 0);
+}
+
+// Takes marks and list back into the two buffers.
+pub fn take_list(first: usize, second: usize, marks: &[u8], list: &[u32], buffers: &mut [u32]) {
+    from_bytes(bytes_between(marks, 0, first), buffers, 0);
+    copy(numbers_from(list, 0, second), buffers, SECOND_BUFFER);
+}
+
+// A scratch and a list, as they are in the two buffers.
+pub fn lend_scratch(
+    first: usize,
+    second: usize,
+    buffers: &[u32],
+    scratch: &mut [u16],
+    list: &mut [u16],
+) {
+    to_halves(numbers_from(buffers, 0, first), scratch);
+    to_halves(numbers_from(buffers, SECOND_BUFFER, second), list);
+}
+
+// Takes scratch and list back into the two buffers.
+pub fn take_scratch(
+    first: usize,
+    second: usize,
+    scratch: &[u16],
+    list: &[u16],
+    buffers: &mut [u32],
+) {
+    from_halves(halves_before(scratch, first), buffers, 0);
+    from_halves(halves_before(list, second), buffers, SECOND_BUFFER);
+}
+
+// A file and the text for it, as they are in the two buffers.
+pub fn lend_text(size: usize, buffers: &[u32], file: &mut [u8], text: &mut [u8]) {
+    to_bytes(numbers_from(buffers, 0, size), file);
+    to_bytes(numbers_from(buffers, SECOND_BUFFER, TEXT_SIZE), text);
+}
+
+// Takes the text back into the second buffer.
+pub fn take_text(text: &[u8; 262144], buffers: &mut [u32]) {
+    from_bytes(text, buffers, SECOND_BUFFER);
+}
+
+// Prints the buffers that an operation wrote in.
+pub fn show_buffers(operation: Operation, case: Case, buffers: &[u32]) {
+    if writes_first(operation) {
+        show_list(numbers_from(buffers, 0, case.first));
+    }
+    if writes_second(operation) {
+        show_list(numbers_from(buffers, SECOND_BUFFER, second_size(operation, case)));
+    }
+    show(b"\n");
+}

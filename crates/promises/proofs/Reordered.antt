@@ -1,0 +1,148 @@
+-- Links stand in any order and a repeated word counts once, for the operations that are no scan: over two nets with the same words the completion,
+-- the clash test, the reason and the reason check do the same.
+use Prim.Native.Nat.{ℕ, zero, suc, _+_, _*_, _≤_, _<_}
+use mathlib.Core.Path.{_≡_, refl, sym, ap, _∙_}
+use mathlib.Core.Bool.{Bool, true, false, cond}
+use mathlib.Core.List.{List, [], _∷_, _++_}
+use mathlib.Core.Logic.{inl, inr}
+use native.Mathlib.Omega.{arith}
+use lib.Dec.{eqb, ltb}
+use lib.ListN.{length, getD, drop}
+use lib.Seq.{ext-getD}
+use Rattle.laws.proofs.Booleans.{same-test}
+use Rattle.theory.specs.Words.{Sign, is, isnt, number, signAt}
+use Rattle.theory.specs.Nets.{Kind, Links, Net}
+use Rattle.theory.specs.Scans.{Scan}
+use Rattle.theory.specs.Completion.{fullMarks, rows, complete}
+use Rattle.theory.specs.Reasons.{Moves, up, over, down, goal, never}
+use Rattle.theory.specs.Searches.{distances, reasonStates, reasonList}
+use Rattle.theory.specs.Checks.{listed, allSteps, passes}
+use Rattle.theory.proofs.Order.{Among}
+use Rattle.theory.proofs.Best.{best-unique}
+use Rattle.theory.proofs.Distances.{distance-into, distance-unique, distances-length, distances-right}
+use Rattle.theory.proofs.Reason.{best-into, states-best}
+use Rattle.theory.proofs.Steps.{listed-exactly}
+use Rattle.words.specs.Table.{badStatement}
+use Rattle.words.proofs.NetCheck.{net-is-checked}
+use Rattle.clashes.specs.Table.{firstClash, clashNet, clashChecked, clashedBy}
+use Rattle.completion.specs.Table.{completionNet, completionChecked, completedBy}
+use Rattle.reasons.specs.Table.{Reason, reason, write, reasonSearched, reasonNet, reasonChecked, reasoned}
+use Rattle.reasons.specs.declared.Reasoned.the-variants.{Unsupported}
+use Rattle.checks.specs.Table.{verdictNet, verdictChecked, verdict}
+use Rattle.promises.proofs.Orders.{after-tests, forward-same}
+use Rattle.promises.proofs.Reasoning.{node-of, kind-of, near}
+
+-- What a list of words links, and each move along a link, a list with those words has too.
+module _ (ws vs : List ℕ) (to : Among ws vs) where
+  links-into : (x y : ℕ) (s : Sign) → Links ws x y s → Links vs x y s
+  links-into x y s l = record { it = l .it; listed = to (l .it) (l .listed); tail = l .tail; head = l .head; sign = l .sign }
+
+  moves-into : (n : ℕ) (s : Sign) (a b : ℕ) → Moves n (Links ws) s a b → Moves n (Links vs) s a b
+  moves-into n s a b (up l) = up (links-into a b is l)
+  moves-into n s a b (over c e (inl l)) = over c e (inl (links-into a c isnt l))
+  moves-into n s a b (over c e (inr l)) = over c e (inr (links-into c a isnt l))
+  moves-into n s a b (down c d p q l) = down c d p q (links-into d c is l)
+
+module _ (o k : ℕ) (ws vs : List ℕ) (n : Net o k ws) (p : Net o k vs) (to : Among ws vs) (from : Among vs ws) where
+  -- A full forward scan from a node leaves the same marks.
+  full-same : (x : ℕ) → x < o + k → fullMarks o k ws x ≡ fullMarks o k vs x
+  full-same x h = ap (λ (s : Scan). s .marks) (forward-same o k ws vs n p to from x (2 * (o + k)) h)
+
+  -- So the rows of the completion are the same.
+  rows-same : (x j : ℕ) → x + j ≤ o + k → rows o k ws x j ≡ rows o k vs x j
+  unfolding rows
+  rows-same x zero h = refl
+  rows-same x (suc j) h = rw (full-same x (omega arith), rows-same (suc x) j (omega arith))
+
+  complete-same : complete o k ws ≡ complete o k vs
+  unfolding complete
+  complete-same = rows-same 0 (o + k) (omega arith)
+
+  -- The completion.
+  pub completion-order : (m l : List ℕ) → completedBy o k ws m l ≡ completedBy o k vs m l
+  unfolding completionChecked completionNet
+  completion-order m l = rw (net-is-checked o k ws n, net-is-checked o k vs p, complete-same)
+
+  -- So is the first clash.
+  first-same : (x j : ℕ) → x + j ≤ o + k → firstClash o k ws x j ≡ firstClash o k vs x j
+  unfolding firstClash
+  first-same x zero h = refl
+  first-same x (suc j) h = rw (full-same x (omega arith), first-same (suc x) j (omega arith))
+
+  -- The clash test.
+  pub clash-order : (m : List ℕ) → clashedBy o k ws m ≡ clashedBy o k vs m
+  unfolding clashChecked clashNet
+  clash-order m = rw (net-is-checked o k ws n, net-is-checked o k vs p, first-same 0 o (omega arith))
+
+  module _ (y : ℕ) (kind : Kind o k y) (s : Sign) where
+    -- The scratch is the same: each place has one right value.
+    distances-same : distances (o + k) s ws y ≡ distances (o + k) s vs y
+    distances-same =
+        ext-getD never (distances (o + k) s ws y) (distances (o + k) s vs y) (distances-length (o + k) s ws y ∙ sym (distances-length (o + k) s vs y))
+        (λ v h. distance-unique (Moves (o + k) (Links vs) s) (goal (o + k) s y) v _ _
+        (distance-into (Moves (o + k) (Links ws) s) (Moves (o + k) (Links vs) s) (moves-into ws vs to (o + k) s) (moves-into vs ws from (o + k) s) (goal (o + k) s y) v _
+        (distances-right o k ws n y kind s v (omega (arith, distances-length (o + k) s ws y))))
+        (distances-right o k vs p y kind s v (omega (arith, distances-length (o + k) s ws y))))
+
+    -- So are the states of a reason: there is one best route.
+    states-same : (x : ℕ) → x < o + k → getD (distances (o + k) s ws y) x never < never → reasonStates (o + k) s ws x y ≡ reasonStates (o + k) s vs x y
+    states-same x node h =
+        best-unique (Moves (o + k) (Links vs) s) (goal (o + k) s y) x _ _
+        (best-into (Moves (o + k) (Links ws) s) (Moves (o + k) (Links vs) s) (moves-into ws vs to (o + k) s) (moves-into vs ws from (o + k) s) (goal (o + k) s y) x _
+        (states-best o k ws n x node y kind s h))
+        (states-best o k vs p x node y kind s (rw distances-same at h))
+
+  -- What a search leaves that fills the scratch with t, where q says whether there is no way.
+  abbrev ends : ℕ → ℕ → Sign → List ℕ → Bool → List ℕ → List ℕ → Reason
+  ends x y s l q us t = cond q (reason Unsupported t l) (write (reasonList (o + k) x (reasonStates (o + k) s us x y)) t l)
+
+  -- A search over a good statement leaves the same.
+  searched-same : (x y sign : ℕ) (d l : List ℕ) → badStatement o (o + k) x y sign ≡ false
+      → reasonSearched (o + k) (signAt sign) ws x y (distances (o + k) (signAt sign) ws y ++ drop ((o + k) + (o + k)) d) l
+      ≡ reasonSearched (o + k) (signAt sign) vs x y (distances (o + k) (signAt sign) vs y ++ drop ((o + k) + (o + k)) d) l
+  searched-same x y sign d l e =
+      at (eqb (getD (distances (o + k) (signAt sign) ws y) x never) never) refl _
+      ∙ ap (λ (t : List ℕ). ends x y (signAt sign) l (eqb (getD t x never) never) vs (t ++ drop ((o + k) + (o + k)) d)) (distances-same y kind (signAt sign))
+    where
+      node : x < o + k
+      node = node-of o k x y sign e
+
+      kind : Kind o k y
+      kind = kind-of o k x y sign e
+
+      at : (q : Bool) → eqb (getD (distances (o + k) (signAt sign) ws y) x never) never ≡ q → (t : List ℕ)
+          → ends x y (signAt sign) l q ws t ≡ ends x y (signAt sign) l q vs t
+      at true f t = refl
+      at false f t =
+          ap (λ (r : List ℕ). write (reasonList (o + k) x r) t l) (states-same y kind (signAt sign) x node (near o k ws x y sign n node kind f))
+
+  -- The reason.
+  pub reason-order : (x y sign : ℕ) (d l : List ℕ) → reasoned o k ws x y sign d l ≡ reasoned o k vs x y sign d l
+  unfolding reasonChecked reasonNet
+  reason-order x y sign d l =
+      rw (net-is-checked o k ws n, net-is-checked o k vs p)
+      (after-tests (badStatement o (o + k) x y sign) (ltb (length d) ((o + k) + (o + k))) _ _ (searched-same x y sign d l))
+
+  -- The tests of the reason check are the same: of one link, of all steps, of the list.
+  listed-same : (x y : ℕ) (s : Sign) → listed x y (number s) ws ≡ listed x y (number s) vs
+  listed-same x y s =
+      same-test (listed x y (number s) ws) (listed x y (number s) vs)
+      (λ e. listed-exactly x y s vs .1 (links-into ws vs to x y s (listed-exactly x y s ws .0 e)))
+      (λ e. listed-exactly x y s ws .1 (links-into vs ws from x y s (listed-exactly x y s vs .0 e)))
+
+  steps-same : (a i u : ℕ) (l : List ℕ) → allSteps o k ws a i u l ≡ allSteps o k vs a i u l
+  unfolding allSteps
+  steps-same a i u [] = refl
+  steps-same a i u (v ∷ l) = rw (listed-same u v is, listed-same v u is, listed-same u v isnt, listed-same v u isnt, steps-same a (suc i) v l)
+
+  passes-same : (x y : ℕ) (s : Sign) (l : List ℕ) → passes o k ws x y s l ≡ passes o k vs x y s l
+  unfolding passes
+  passes-same x y s [] = refl
+  passes-same x y s (a ∷ []) = refl
+  passes-same x y s (a ∷ b ∷ []) = refl
+  passes-same x y s (a ∷ b ∷ u ∷ l) = rw (steps-same a 0 u l)
+
+  -- The reason check.
+  pub check-order : (x y sign : ℕ) (l : List ℕ) → verdict o k ws x y sign l ≡ verdict o k vs x y sign l
+  unfolding verdictChecked verdictNet
+  check-order x y sign l = rw (net-is-checked o k ws n, net-is-checked o k vs p, passes-same x y (signAt sign) l)
