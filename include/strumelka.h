@@ -17,8 +17,8 @@
  * written to its front are never touched.
  *
  * The library keeps nothing between calls, allocates nothing and calls nothing but memory functions of the C library:
- * calls from several threads may run at once where they write to different buffers. The code is for x86-64 and the
- * System V calling convention.
+ * calls from several threads may run at once where none writes to a buffer that another one reads or writes. The code is
+ * for x86-64 and the System V calling convention.
  */
 #ifndef STRUMELKA_H
 #define STRUMELKA_H

@@ -5,11 +5,10 @@ use mathlib.Core.Bool.{Bool, true, false, cond}
 use mathlib.Core.List.{List, _++_}
 use native.Mathlib.Omega.{arith}
 use borrow.Author.Tests.{le-ltb, lt-leb}
-use lib.Dec.{ltb, leb}
 use lib.ListN.{length, drop}
 use lib.Seq.{drop-at}
 use Rattle.theory.specs.Nets.{Net}
-use Rattle.theory.specs.Scans.{Scan, forwardScan}
+use Rattle.theory.specs.Scans.{forwardScan}
 use Rattle.theory.proofs.Inside.{Inside, legal-inside}
 use Rattle.theory.proofs.Bounds.{forward-scan-long}
 use Rattle.machine.specs.Scanning.{Outcome, outcome, ran, scanNet}

@@ -1,7 +1,7 @@
 -- The paper's row tells which verdict it is.
 use Prim.Native.Nat.{ℕ, zero, suc}
 use mathlib.Core.Path.{_≡_, refl, sym, ap, _∙_}
-use Rattle.words.specs.Table.{Row, row}
+use Rattle.words.specs.Table.{Row}
 use Rattle.words.specs.declared.Refusal.the-variants.{TooManyNodes, TooManyWords, IllegalWord, BadQuestion, ShortBuffer}
 use Rattle.words.proofs.Rows.{refusalAt}
 use Rattle.checks.specs.Table.{verdictRow}

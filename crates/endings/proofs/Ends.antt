@@ -1,10 +1,9 @@
--- Fields as they are written one after another, and the room that those at the end of a line take.
+-- The fields at the end of a line, and the room that they take.
 use Prim.Native.Nat.{ℕ, _+_, _≤_}
 use mathlib.Core.Path.{_≡_}
 use mathlib.Core.List.{List, [], _∷_, _++_, append-assoc}
 use native.Mathlib.Omega.{arith}
 use lib.ListN.{length, length-append}
-use Rattle.fields.proofs.Writing.{rest}
 use Rattle.words.specs.Table.{refusalRow}
 use Rattle.words.specs.declared.Refusal.{Refusal}
 use Rattle.answers.specs.declared.Answer.{Answer}

@@ -1,4 +1,4 @@
-// What follows x and y in a question's line: the answer and its count, or `refused` and a number.
+// What follows x and y in a question's line: the answer and its count, or `refused` and a number; and the number of a refusal.
 ghost use Prim.Native.Nat.{_≤_};
 ghost use mathlib.Core.Path.{_≡_};
 ghost use mathlib.Core.List.{_++_, _∷_, []};

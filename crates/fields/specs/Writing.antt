@@ -5,7 +5,7 @@ use mathlib.Core.List.{List}
 use lib.ListN.{length}
 use Rattle.laws.specs.Over.{over}
 
--- The text l became l′ by ws in front of it, which is r bytes.
+-- The text l became l′ by ws written over its front, which is r bytes.
 pub record Wrote (ws l l′ : List ℕ) (r : ℕ) : Type 0 where
   pub list : l′ ≡ over ws l
   pub size : r ≡ length ws

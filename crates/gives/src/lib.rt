@@ -1,4 +1,4 @@
-// Every operation's answer as a row of the number table.
+// The answers of scan, question, clash test, completion, reason and reason check, each as a row of the number table.
 ghost use mathlib.Core.Path.{_≡_};
 ghost use Rattle.machine.specs.Scanning.{scanRow};
 ghost use Rattle.answers.specs.Table.{answerNumber, askedRow};

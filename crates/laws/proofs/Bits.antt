@@ -1,7 +1,7 @@
 -- Laws of the bits of a number: bit j of n is n / 2 ^ j % 2.
 use Prim.Native.Nat.{ℕ, zero, suc, _+_, _*_, _/_, _%_, _^_, _-_, _<_, _≤_, max}
 use mathlib.Core.Path.{_≡_, refl, sym, ap, _∙_}
-use mathlib.Core.Bool.{Bool, true, false, _||_}
+use mathlib.Core.Bool.{true, false, _||_}
 use native.Mathlib.Omega.{arith}
 use native.Mathlib.Nat.{max-le, mod-lt}
 use native.Mathlib.Decide.{decLt, ℕ-discrete}

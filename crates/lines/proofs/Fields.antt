@@ -1,11 +1,10 @@
--- Fields as they are written one after another into the front of a text, and the room that they take.
+-- All fields of a line, one after another, and the room that they take.
 use Prim.Native.Nat.{ℕ, _+_, _≤_, _<_}
 use mathlib.Core.Path.{_≡_, ap, _∙_}
 use mathlib.Core.List.{List, [], _∷_, _++_, append-assoc}
 use native.Mathlib.Omega.{arith}
 use lib.ListN.{length, length-append}
 use Rattle.endings.proofs.Ends.{field-joins, word-space, number-room, answer-room}
-use Rattle.fields.proofs.Writing.{rest}
 use Rattle.answers.specs.declared.Asked.{Asked}
 use Rattle.fields.specs.Decimal.{decimal}
 use Rattle.endings.specs.Ending.{field, lastField, answerFields}

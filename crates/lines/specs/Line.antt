@@ -1,4 +1,4 @@
--- The line that `ask` prints for a question: its numbers in decimal, and its words.
+-- The line that `ask` prints for a question, and the words with which its other lines begin.
 use Prim.Native.Nat.{ℕ}
 use mathlib.Core.List.{List, [], _∷_}
 use Rattle.endings.specs.Ending.{field, answerFields}

@@ -1,13 +1,16 @@
 -- The paper's row tells which answer of the reader it is, and which of an entry; a closed entry's row is the reader's.
-use Prim.Native.Nat.{ℕ, zero, suc}
+use Prim.Native.Nat.{ℕ, zero, suc, _≤_}
 use mathlib.Core.Path.{_≡_, refl, sym, ap, _∙_}
 use mathlib.Core.List.{List}
+use lib.ListN.{length}
 use Rattle.words.specs.Table.{Row}
+use Rattle.entries.specs.Entries.{entryAt}
 use Rattle.entries.specs.declared.Entry.{Entry}
 use Rattle.entries.specs.declared.Entry.the-variants.{Open, Closed}
-use Rattle.netfile.specs.Contents.{contentsRow, entryRow, withFirst, withSecond, withThird}
+use Rattle.netfile.specs.Contents.{fileLimit, contentsOf, contentsRow, entryRow}
 use Rattle.netfile.specs.declared.Contents.{Contents}
 use Rattle.netfile.specs.declared.Contents.the-variants.{Bodies, Malformed}
+use Rattle.netfile.proofs.Reading.{first-closed, second-closed, third-closed}
 
 -- The answer of a number and a value.
 abbrev contentsOfRow : ℕ → ℕ → Contents
@@ -42,11 +45,13 @@ pub entry-row-one-to-one : (n : ℕ) (c d : Entry) → entryRow n c ≡ entryRow
 entry-row-one-to-one n c d e = sym (entry-at-row n c) ∙ ap entryAtRow e ∙ entry-at-row n d
 
 -- An entry that cannot be opened ends the reading with its own row.
-pub first-row : (s : List ℕ) → contentsRow (withFirst s Closed) ≡ entryRow 0 Closed
-first-row s = refl
+module _ (s : List ℕ) (low : 24 ≤ length s) (high : length s ≤ fileLimit) where
+  pub first-row : entryAt s 0 24 ≡ Closed → contentsRow (contentsOf s) ≡ entryRow 0 Closed
+  first-row e = ap contentsRow (sym (first-closed s low high _ refl e))
 
-pub second-row : (s : List ℕ) → contentsRow (withSecond s Closed) ≡ entryRow 1 Closed
-second-row s = refl
+  pub second-row : {a d : ℕ} → entryAt s 0 24 ≡ Open a d → entryAt s 1 d ≡ Closed → contentsRow (contentsOf s) ≡ entryRow 1 Closed
+  second-row e f = ap contentsRow (sym (second-closed s low high _ _ _ refl e _ refl f))
 
-pub third-row : contentsRow (withThird Closed) ≡ entryRow 2 Closed
-third-row = refl
+  pub third-row : {a d a′ d′ : ℕ} → entryAt s 0 24 ≡ Open a d → entryAt s 1 d ≡ Open a′ d′ → entryAt s 2 d′ ≡ Closed
+      → contentsRow (contentsOf s) ≡ entryRow 2 Closed
+  third-row e f g = ap contentsRow (sym (third-closed s low high _ _ _ refl e _ _ _ refl f _ refl g))

@@ -1,4 +1,4 @@
--- The net file: its contents, and the stretches that its bodies are.
+-- The net file: its contents, the stretches that its bodies are, and the rows of the reader and of an entry.
 use Prim.Native.Nat.{ℕ, _-_}
 use mathlib.Core.Bool.{cond, _||_}
 use mathlib.Core.List.{List, [], _∷_}
@@ -32,7 +32,7 @@ withFirst s Closed = Malformed 0
 unfoldable pub contentsOf : List ℕ → Contents
 contentsOf s = cond (ltb (length s) 24 || ltb fileLimit (length s)) (Malformed 3) (withFirst s (entryAt s 0 24))
 
--- The three bodies, as stretches of the file: o and k, the words, the questions. A malformed file has none.
+-- The three bodies, as stretches of the file: o and k, the words, the questions. Those of a malformed file are empty.
 unfoldable pub bodiesOf : List ℕ → Contents → List (List ℕ)
 bodiesOf s (Bodies e) = take 8 (drop 24 s) ∷ take (e - 32) (drop 32 s) ∷ drop e s ∷ []
 bodiesOf s (Malformed p) = [] ∷ [] ∷ [] ∷ []

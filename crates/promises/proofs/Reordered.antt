@@ -1,4 +1,4 @@
--- Links stand in any order and a repeated word counts once, for the operations that are no scan: over two nets with the same words the completion,
+-- Links stand in any order and a repeated word counts once, for the operations that are neither a scan nor a question: over two nets with the same words the completion,
 -- the clash test, the reason and the reason check do the same.
 use Prim.Native.Nat.{ℕ, zero, suc, _+_, _*_, _≤_, _<_}
 use mathlib.Core.Path.{_≡_, refl, sym, ap, _∙_}

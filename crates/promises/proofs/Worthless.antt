@@ -73,9 +73,13 @@ denies : denier .question 2 4 M 0 4 (blank 6) .answer ≡ asked.Done None 5
 unfolding checkNet legalPrefix questionNet questionChecked rounds same round command links link mark
 denies = refl
 
--- But 0 ↛ 4 is supported.
+-- But 0 ↛ 4 is supported: an engine that answers none to that question breaks demand 2.
+pub denying-breaks : (e : Engine) (count : ℕ) → e .question 2 4 M 0 4 (blank 6) .answer ≡ asked.Done None count → Demand2 e → ⊥
+denying-breaks e count h d = clash (d .question 2 4 M 0 4 (blank 6) None count h isnt .1 nought-is-not-four)
+
+-- So the engine that answers none to every question does.
 pub denier-breaks : Demand2 denier → ⊥
-denier-breaks d = clash (d .question 2 4 M 0 4 (blank 6) None 5 denies isnt .1 nought-is-not-four)
+denier-breaks = denying-breaks denier 5 denies
 
 -- ── one that returns the net as its own completion ──
 

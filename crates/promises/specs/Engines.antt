@@ -11,7 +11,7 @@ use Rattle.reasons.specs.Table.{Reason, reasoned}
 use Rattle.checks.specs.Table.{verdict}
 use Rattle.checks.specs.declared.Verdict.{Verdict}
 
--- The eight operations, each over objects, kinds, words, what is asked, and the lent buffers as they are at entry.
+-- The eight operations on nets, each over objects, kinds, words, what is asked, and the lent buffers as they are at entry.
 pub record Engine : Type 0 where
   pub netCheck : ℕ → ℕ → List ℕ → Checked
   pub forwardScan : ℕ → ℕ → List ℕ → ℕ → ℕ → List ℕ → Outcome

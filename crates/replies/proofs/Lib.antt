@@ -1,3 +1,3 @@
 pub mod Asking
 pub mod Lines
-pub mod Whole
+pub mod NetText

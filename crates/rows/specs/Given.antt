@@ -1,5 +1,5 @@
 -- A row of the number table in three words of 32 bits.
-use Prim.Native.Nat.{ℕ, _<_}
+use Prim.Native.Nat.{_<_}
 use Rattle.words.specs.Table.{Row, row}
 use Rattle.rows.specs.declared.Given.{Given}
 

@@ -1,4 +1,4 @@
-// A row of the number table as a struct, of a refusal and of the check of a net: a number and two values, 0 where the table names none.
+// A row of the number table as a struct, of a refusal and of the check of a net: a number and two values, 0 where none is named.
 ghost use mathlib.Core.Path.{_≡_};
 ghost use Rattle.words.specs.Table.{row, refusalRow, checkedRow};
 ghost use Rattle.rows.specs.Given.{given, Fits};

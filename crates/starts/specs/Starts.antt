@@ -1,4 +1,4 @@
--- Marks before a scan.
+-- The marks at the start of a scan, marks cleared, and marks that hold T, F and U alone.
 use Prim.Native.Nat.{ℕ, _<_}
 use mathlib.Core.Bool.{Bool, cond}
 use mathlib.Core.List.{List, _++_}

@@ -1,4 +1,4 @@
--- What one word does for one step of a path.
+-- One step of a path: what one word does for it, and whether it repeats a kind.
 use Prim.Native.Nat.{ℕ, _+_}
 use mathlib.Core.Bool.{Bool, false, cond, _&&_, _||_}
 use lib.Dec.{eqb, ltb, leb}

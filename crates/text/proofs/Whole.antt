@@ -1,4 +1,4 @@
--- The text of a net by its check, of the bodies by what is read of them, and of a file by its contents; and that all of it fits.
+-- The text of the bodies by what is read of them, and of a file by its contents; and that all of it fits.
 use Prim.Native.Nat.{ℕ, _+_, _*_, _-_, _/_, _≤_}
 use mathlib.Core.Path.{_≡_, sym, ap, _∙_}
 use mathlib.Core.List.{List, [], _∷_, _++_, map}

@@ -1,25 +1,23 @@
 -- Each round but the last sets a mark, so the count is at most 2N in the forward scan and 3N − 1 in the kind scan.
 use Prim.Native.Nat.{ℕ, zero, suc, _+_, _*_, _-_, _^_, _≤_, _<_}
-use mathlib.Core.Path.{_≡_, refl, subst, sym, _∙_, ap}
-use mathlib.Core.Bool.{Bool, true, false, _&&_, _||_}
-use mathlib.Core.List.{List, [], _∷_}
+use mathlib.Core.Path.{_≡_, refl, sym, _∙_, ap}
+use mathlib.Core.Bool.{Bool, true, false}
+use mathlib.Core.List.{List}
 use native.Mathlib.Omega.{arith}
-use native.Mathlib.Nat.{zero-div}
-use lib.Dec.{eqb}
 use lib.ListN.{length, getD, drop, drop-of-length-le, length-replicate}
 use borrow.Author.Tests.{eq-eqb}
 use Rattle.laws.proofs.Booleans.{clash, not-so}
 use Rattle.theory.specs.Nets.{LegalWords}
-use Rattle.theory.specs.Marks.{T, F, U, has, mark, blank, round, forward, kindly, forwardStart, kindStart}
-use Rattle.theory.specs.Scans.{same, Scan, rounds, Count, forwardScan, kindScan}
+use Rattle.theory.specs.Marks.{T, U, has, mark, blank, round, forward, kindly, forwardStart, kindStart}
+use Rattle.theory.specs.Scans.{same, rounds, Count, forwardScan, kindScan}
 use Rattle.theory.specs.declared.Command.{Command}
 use Rattle.theory.proofs.Inside.{Inside, legal-inside}
-use Rattle.theory.proofs.Growth.{size, Set, kept, more, Step, Puts, mark-more, mark-step, step-none, step-then, round-step, size-low}
-use Rattle.theory.proofs.Commands.{mark-length, mark-at}
+use Rattle.theory.proofs.Growth.{size, Set, kept, more, Step, Puts, mark-more, mark-step, round-step, size-low}
+use Rattle.theory.proofs.Commands.{mark-at}
 use Rattle.theory.proofs.Machine.{after-step}
 use Rattle.theory.proofs.Rounds.{same-refl, rounds-none, rounds-last, rounds-more}
-use Rattle.theory.proofs.Starts.{blank-none, blank-byte, forward-long, kind-long, forward-puts, kindly-puts, forward-puts-8, kindly-puts-8}
-use Rattle.theory.proofs.Budgets.{Last, last-round, spent-marks, ends-within}
+use Rattle.theory.proofs.Starts.{blank-none, blank-byte, forward-long, kind-long, forward-puts, kindly-puts, forward-puts-8}
+use Rattle.theory.proofs.Budgets.{last-round, spent-marks, ends-within}
 
 grew-more : {f : Bool} {m m′ : List ℕ} → Set f m m′ → same m m′ ≡ false → size m < size m′
 grew-more {m = m} kept h = clash (sym h ∙ same-refl m)

@@ -1,18 +1,18 @@
 -- A command, node by node and marker by marker.
-use Prim.Native.Nat.{ℕ, zero, suc, _+_, _^_, _<_, _≤_}
+use Prim.Native.Nat.{ℕ, _^_, _<_, _≤_}
 use mathlib.Core.Path.{_≡_, refl, sym, ap, _∙_}
 use mathlib.Core.Bool.{Bool, true, false, cond, _&&_, _||_}
 use mathlib.Core.List.{List, [], _∷_}
 use native.Mathlib.Omega.{arith}
 use borrow.Author.Tests.{eqb-true, eqb-false}
 use lib.Dec.{eqb}
-use lib.ListN.{length, getD, set, length-set}
+use lib.ListN.{length, getD, length-set}
 use lib.Seq.{getD-set-same, getD-set-other}
 use Rattle.laws.proofs.Booleans.{or-assoc, or-false}
 use Rattle.laws.proofs.Bits.{bit-or, bit-power}
 use Rattle.theory.specs.Marks.{has, with, mark, far, fires, link, links, command}
 use Rattle.theory.specs.declared.Command.{Command}
-use Rattle.theory.proofs.Inside.{Ends, Inside, far-in, inside-first, inside-rest}
+use Rattle.theory.proofs.Inside.{Inside, far-in, inside-first, inside-rest}
 
 -- The markers of a byte that got one.
 pub has-with : (j k b : ℕ) → has j (with k b) ≡ (has j b || eqb j k)

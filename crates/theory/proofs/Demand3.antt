@@ -28,9 +28,6 @@ links-join ws vs x y s (inl l) = record { it = l .it; listed = Memᴰ·append-le
 links-join ws vs x y s (inr l) = record { it = l .it; listed = Memᴰ·append-right ws (l .listed); tail = l .tail; head = l .head; sign = l .sign }
 
 module _ (o k : ℕ) where
-  legal-left : (ws vs : List ℕ) → LegalWords o k (ws ++ vs) → LegalWords o k ws
-  legal-left ws vs l w m = l w (Memᴰ·append-left vs m)
-
   legal-right : (ws vs : List ℕ) → LegalWords o k (ws ++ vs) → LegalWords o k vs
   legal-right ws vs l w m = l w (Memᴰ·append-right ws m)
 

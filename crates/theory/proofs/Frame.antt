@@ -1,20 +1,19 @@
 -- Bytes past the nodes play no part: a scan of marks with more behind them is the scan of the marks, with the same behind them.
-use Prim.Native.Nat.{ℕ, zero, suc, _+_, _-_, _<_, _≤_}
-use mathlib.Core.Path.{_≡_, refl, sym, ap, ap₂, _∙_}
+use Prim.Native.Nat.{ℕ, zero, suc, _+_, _<_}
+use mathlib.Core.Path.{_≡_, refl, sym, ap, _∙_}
 use mathlib.Core.Bool.{Bool, true, false, cond, _&&_}
 use mathlib.Core.List.{List, [], _∷_, _++_}
 use native.Mathlib.Omega.{arith}
 use lib.Dec.{eqb}
-use lib.ListN.{length, getD, set, List·getD-append}
+use lib.ListN.{length, getD, List·getD-append}
 use lib.Seq.{set-append-left}
-use Rattle.laws.proofs.Booleans.{same-test, and-both, and-left, and-right}
-use Rattle.theory.specs.Marks.{has, with, mark, near, far, fires, link, links, command, round}
+use Rattle.theory.specs.Marks.{with, mark, near, far, fires, link, links, command, round}
 use Rattle.theory.specs.Scans.{same, Scan, rounds}
 use Rattle.theory.specs.declared.Command.{Command}
 use Rattle.theory.proofs.Inside.{Ends, Inside, near-in, far-in, inside-first, inside-rest}
 use Rattle.theory.proofs.Commands.{link-length}
-use Rattle.theory.proofs.Growth.{Step, Puts, command-step, round-step}
-use Rattle.theory.proofs.Rounds.{same-refl, same-eq, rounds-none, rounds-last, rounds-more}
+use Rattle.theory.proofs.Growth.{Puts, command-step, round-step}
+use Rattle.theory.proofs.Rounds.{same-refl, rounds-none, rounds-last, rounds-more}
 
 module _ (past : List ℕ) where
   pub mark-frame : (j v : ℕ) (m : List ℕ) → v < length m → mark j v (m ++ past) ≡ mark j v m ++ past

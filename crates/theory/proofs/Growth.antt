@@ -1,10 +1,10 @@
 -- Marks only grow: the number of marks, and what a step of a scan keeps.
-use Prim.Native.Nat.{ℕ, zero, suc, _+_, _*_, _-_, _^_, _<_, _≤_, zero-le, suc-le-suc}
-use mathlib.Core.Path.{_≡_, refl, sym, ap, _∙_}
-use mathlib.Core.Bool.{Bool, true, false, not, cond, _||_}
+use Prim.Native.Nat.{ℕ, zero, suc, _+_, _*_, _^_, _<_, _≤_, zero-le, suc-le-suc}
+use mathlib.Core.Path.{_≡_, refl, sym, _∙_}
+use mathlib.Core.Bool.{Bool, true, false, cond, _||_}
 use mathlib.Core.List.{List, [], _∷_}
 use native.Mathlib.Omega.{arith}
-use native.Mathlib.Nat.{le-of-suc-le-suc, not-suc-le-zero, lt-trans, le-refl, le-of-lt, suc-mul}
+use native.Mathlib.Nat.{le-of-suc-le-suc, not-suc-le-zero, lt-trans, suc-mul}
 use borrow.Author.Tests.{eqb-true, eqb-false}
 use lib.Dec.{eqb}
 use lib.ListN.{length, getD, set, drop, length-set}
@@ -13,7 +13,7 @@ use lib.Bits.{or-lt}
 use lib.Count.{ones, ones-le}
 use lib.Pow.{pow-lt}
 use Rattle.laws.proofs.Bits.{or-had, ones-new}
-use Rattle.theory.specs.Marks.{has, with, mark, near, far, fires, link, links, command, round}
+use Rattle.theory.specs.Marks.{has, with, mark, far, fires, link, links, command, round}
 use Rattle.theory.specs.declared.Command.{Command}
 use Rattle.theory.proofs.Inside.{Ends, Inside, far-in, inside-first, inside-rest}
 
@@ -32,14 +32,6 @@ set-then kept kept = kept
 set-then kept (more l) = more l
 set-then (more l) kept = more l
 set-then (more k) (more l) = more (lt-trans k l)
-
-pub set-le : {f : Bool} {a b : List ℕ} → Set f a b → size a ≤ size b
-set-le {a = a} kept = le-refl (size a)
-set-le (more l) = le-of-lt l
-
-pub set-same-size : {f : Bool} {a b : List ℕ} → Set f a b → size b ≤ size a → b ≡ a
-set-same-size kept h = refl
-set-same-size (more l) h = absurd (omega arith)
 
 pub size-set : (m : List ℕ) (i x : ℕ) → i < length m → size (set m i x) + ones (getD m i 0) ≡ size m + ones x
 unfolding size

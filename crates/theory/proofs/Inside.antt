@@ -1,12 +1,12 @@
 -- Words whose two ends are nodes below n: what the loops over links ask of a net.
-use Prim.Native.Nat.{ℕ, zero, suc, _+_, _<_, _≤_}
-use mathlib.Core.Path.{_≡_, refl, subst}
+use Prim.Native.Nat.{ℕ, zero, suc, _+_, _<_}
+use mathlib.Core.Path.{refl, subst}
 use mathlib.Core.Bool.{Bool, true, false}
 use mathlib.Core.List.{List, [], _∷_, List·Memᴰ, List·Memᴰ·head, List·Memᴰ·tail}
 use native.Mathlib.Nat.{le-of-suc-le-suc, not-suc-le-zero}
 use lib.ListN.{length, getD}
-use Rattle.theory.specs.Words.{Sign, tailOf, headOf}
-use Rattle.theory.specs.Nets.{Kind, Links, LegalWord, LegalWords, Legal}
+use Rattle.theory.specs.Words.{tailOf, headOf}
+use Rattle.theory.specs.Nets.{Kind, Links, LegalWords, Legal}
 use Rattle.theory.specs.Marks.{near, far}
 
 -- Both ends of a word are nodes.

@@ -1,14 +1,14 @@
 -- Laws of the supported set, over any sets of links.
-use Prim.Native.Nat.{ℕ, zero, suc, _+_, _≤_, _<_}
-use mathlib.Core.Path.{_≡_, refl, subst, sym, _∙_}
+use Prim.Native.Nat.{ℕ, _+_, _<_}
+use mathlib.Core.Path.{_≡_, _∙_}
 use mathlib.Core.Logic.{_⊎_, inl, inr, _↔_, ⊎-elim}
 use native.Mathlib.Omega.{arith}
 use Rattle.theory.specs.Words.{Sign, is, isnt}
 use Rattle.theory.specs.Nets.{Statements, Kind, Legal}
-use Rattle.theory.specs.Support.{Closed, Supported, link, r1, r2, r3, r4, r5}
+use Rattle.theory.specs.Support.{Supported, link, r1, r2, r3, r4, r5}
 use Rattle.theory.specs.Paths.{Crossing}
-use Rattle.theory.proofs.Smallest.{smallest, closed}
-use Rattle.theory.proofs.Reach.{Up, here, step, Apart, Reached, supported-is-reached}
+use Rattle.theory.proofs.Smallest.{smallest}
+use Rattle.theory.proofs.Reach.{Up, here, step, Reached, supported-is-reached}
 
 abbrev pub Sub : Statements → Statements → Type 0
 Sub L M = (x y : ℕ) (s : Sign) → L x y s → M x y s

@@ -1,13 +1,13 @@
 -- Lemma 1, with the object cases right: a statement is supported exactly if a path shows it.
-use Prim.Native.Nat.{ℕ, zero, suc, _+_, _≤_, _<_}
-use mathlib.Core.Path.{_≡_, refl, subst, sym, _∙_}
+use Prim.Native.Nat.{ℕ, _+_}
+use mathlib.Core.Path.{_≡_, refl, subst, sym}
 use mathlib.Core.List.{List, [], _∷_, _++_}
-use mathlib.Core.Logic.{_⊎_, inl, inr, _↔_}
+use mathlib.Core.Logic.{inl, inr, _↔_}
 use Rattle.theory.specs.Words.{Sign, is, isnt}
-use Rattle.theory.specs.Nets.{Statements, Kind, Legal}
+use Rattle.theory.specs.Nets.{Statements, Legal}
 use Rattle.theory.specs.Support.{Supported}
-use Rattle.theory.specs.Paths.{Step, lastOf, First, Crossing, Second, Shows}
-use Rattle.theory.proofs.Reach.{Up, here, step, Apart, Reached, trans, supported-is-reached}
+use Rattle.theory.specs.Paths.{Step, lastOf, First, Second, Shows}
+use Rattle.theory.proofs.Reach.{Up, here, step, Reached, trans, supported-is-reached}
 
 module _ (o k : ℕ) (L : Statements) where
   one-up : (a b : ℕ) → Step o k L a b → Up L b a

@@ -9,7 +9,7 @@ use lib.Seq.{ext-getD}
 use Rattle.laws.proofs.Booleans.{same-test}
 use Rattle.laws.proofs.Bits.{bits-same}
 use Rattle.theory.specs.Marks.{has, command, round}
-use Rattle.theory.specs.Scans.{same, Scan, rounds}
+use Rattle.theory.specs.Scans.{same, rounds}
 use Rattle.theory.specs.declared.Command.{Command}
 use Rattle.theory.proofs.Inside.{Inside}
 use Rattle.theory.proofs.Growth.{Step, Puts, command-step, round-step}

@@ -1,6 +1,6 @@
 -- What the links reach: up over → links, over a crossing, and down again; a statement is supported exactly if it is reached.
-use Prim.Native.Nat.{ℕ, zero, suc, _+_, _≤_, _<_}
-use mathlib.Core.Path.{_≡_, refl, subst, sym, _∙_}
+use Prim.Native.Nat.{ℕ, _<_}
+use mathlib.Core.Path.{_≡_, refl, subst, sym}
 use mathlib.Core.Logic.{_⊎_, inl, inr, _↔_, ⊎-swap}
 use native.Mathlib.Omega.{arith}
 use native.Mathlib.Decide.{decLt}

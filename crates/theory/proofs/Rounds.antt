@@ -1,7 +1,7 @@
 -- Rounds within a budget: how the computed scan goes on, also in the terms of a loop that counts up to its budget.
-use Prim.Native.Nat.{ℕ, zero, suc, _+_, _-_, _<_, _≤_}
-use mathlib.Core.Path.{_≡_, refl, sym, ap, _∙_}
-use mathlib.Core.Bool.{Bool, true, false, not, _&&_, _||_}
+use Prim.Native.Nat.{ℕ, suc, _+_, _-_, _<_, _≤_}
+use mathlib.Core.Path.{_≡_, refl, ap, _∙_}
+use mathlib.Core.Bool.{Bool, true, false, not}
 use mathlib.Core.List.{List, [], _∷_}
 use native.Mathlib.Omega.{arith}
 use native.Mathlib.Numerals.{add-one}
@@ -9,7 +9,7 @@ use borrow.Author.Tests.{eqb-true, eq-eqb}
 use lib.Dec.{eqb}
 use Rattle.laws.proofs.Booleans.{and-left, and-right, not-so, clash}
 use Rattle.theory.specs.Marks.{round}
-use Rattle.theory.specs.Scans.{same, Scan, rounds}
+use Rattle.theory.specs.Scans.{same, rounds}
 use Rattle.theory.specs.declared.Command.{Command}
 use Rattle.theory.proofs.Growth.{size, Set, kept, more}
 

@@ -3,7 +3,7 @@ use Prim.Native.Nat.{ℕ, suc, _+_, _-_, _<_}
 use mathlib.Core.Path.{_≡_, refl, sym, _∙_, ap}
 use mathlib.Core.List.{List, [], _∷_, _++_, map, head-eq-of-cons-eq, tail-eq-of-cons-eq}
 use native.Mathlib.Omega.{arith}
-use lib.ListN.{length, take, drop, length-append}
+use lib.ListN.{length, take, drop}
 use lib.Seq.{take-append-seam, drop-append-seam}
 use Rattle.theory.specs.Words.{Sign, is, isnt}
 use Rattle.theory.specs.Nets.{Statements, Legal}
@@ -69,7 +69,3 @@ pub written-injective : (x : ℕ) (xs ys us vs : List ℕ) → written x xs ys �
 written-injective x xs ys us vs e =
     let h = head-eq-of-cons-eq e in
     append-injective xs ys us vs (omega arith) (tail-eq-of-cons-eq (tail-eq-of-cons-eq (tail-eq-of-cons-eq e)))
-
--- A path that is written has its two sizes, its start and its other nodes as the places of its list.
-pub written-length : (x : ℕ) (xs ys : List ℕ) → length (written x xs ys) ≡ 3 + (length xs + length ys)
-written-length x xs ys = omega (arith, length-append xs ys)

@@ -1,7 +1,7 @@
 -- The paper's row tells which refusal it is.
 use Prim.Native.Nat.{ℕ, zero, suc, _-_}
 use mathlib.Core.Path.{_≡_, refl, sym, ap, _∙_}
-use Rattle.words.specs.Table.{Row, row, refusalRow, checkedRow}
+use Rattle.words.specs.Table.{Row, refusalRow, checkedRow}
 use Rattle.words.specs.declared.Checked.{Checked}
 use Rattle.words.specs.declared.Checked.the-variants.{Nodes, Refused}
 use Rattle.words.specs.declared.Refusal.{Refusal}

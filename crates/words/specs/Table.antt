@@ -1,4 +1,4 @@
--- The number table's rows 1 to 5: the check of a net, and the number and value of each refusal.
+-- Rows 1 to 3 as the check of a net, the tests of row 4 for a statement, and what a row of the number table is: of each refusal, and of that check.
 use Prim.Native.Nat.{ℕ, _+_}
 use mathlib.Core.Bool.{Bool, cond, _||_}
 use mathlib.Core.List.{List}
@@ -27,7 +27,7 @@ badPair o n x y = leb n x || (ltb y o || leb n y)
 abbrev pub badStatement : ℕ → ℕ → ℕ → ℕ → ℕ → Bool
 badStatement o n x y sign = badPair o n x y || ltb 1 sign
 
--- An answer as a row of the number table: its number and up to two values, 0 where none is named.
+-- An answer as a row of the number table: its number and up to two values, 0 where neither the paper nor this project names one.
 pub record Row : Type 0 where
   pub number : ℕ
   pub first : ℕ

@@ -1,5 +1,4 @@
 -- Each return is one row of the table.
-use mathlib.Core.Path.{ap, _∙_}
 use native.Mathlib.Omega.{arith}
 use borrow.Author.Needs.{needs}
 use Rattle.completion.proofs.Outcomes.{complete-unmarked, complete-short, complete-done}

@@ -7,7 +7,7 @@ use lib.ListN.{length, drop}
 use Rattle.theory.specs.Completion.{fullMarks, row, rows, complete}
 use Rattle.answers.proofs.FullScans.{full-past}
 use Rattle.cells.proofs.Rows.{row-short}
-use Rattle.listing.proofs.Parts.{read-row, rows-all, rows-go, rows-end}
+use Rattle.listing.proofs.Listing.{read-row, rows-all, rows-go, rows-end}
 use Rattle.listing.proofs.count_rows.Statement.{statement}
 use Rattle.listing.proofs.count_rows.Tie as tie
 

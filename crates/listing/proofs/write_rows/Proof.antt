@@ -8,7 +8,7 @@ use lib.ListN.{length, drop, length-take, length-drop}
 use Rattle.laws.specs.Over.{over}
 use Rattle.theory.specs.Completion.{fullMarks, row, rows}
 use Rattle.answers.proofs.FullScans.{full-past}
-use Rattle.listing.proofs.Parts.{read-row, rows-none, rows-all, rows-more, rows-room}
+use Rattle.listing.proofs.Listing.{read-row, rows-none, rows-all, rows-more, rows-room}
 use Rattle.laws.proofs.Over.{written-more}
 use Rattle.listing.proofs.write_rows.Statement.{statement}
 use Rattle.listing.proofs.write_rows.Tie as tie

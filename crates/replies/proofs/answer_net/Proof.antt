@@ -1,7 +1,7 @@
 -- `answer_net`: the check decides between the lines and the report.
 use native.Mathlib.Omega.{arith}
 use Rattle.fields.proofs.Writing.{wrote-as}
-use Rattle.replies.proofs.Whole.{index-room, net-lines, net-report}
+use Rattle.replies.proofs.NetText.{index-room, net-lines, net-report}
 use borrow.Author.Needs.{needs}
 use Rattle.replies.proofs.answer_net.Statement.{statement}
 use Rattle.replies.proofs.answer_net.Tie as tie
