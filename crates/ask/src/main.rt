@@ -7,6 +7,6 @@ fn main() {
     let mut file = [0u8; 32769];
     let mut text = [0u8; 262144];
     let read = io::read_full(STDIN_FILENO, &mut file);
-    let size = text::answer_file(&file[..read], &mut text);
+    let size = ask_text::answer_file(&file[..read], &mut text);
     io::write_all(STDOUT_FILENO, &text[..size]);
 }

@@ -5,12 +5,12 @@ use mathlib.Core.List.{List, _++_}
 use native.Mathlib.Omega.{arith}
 use borrow.Author.Tests.{lt-ltb, le-ltb}
 use lib.ListN.{length, drop, replicate}
-use Rattle.laws.specs.Over.{over}
+use Rattle.theory_laws.specs.Over.{over}
 use Rattle.theory.specs.Completion.{complete}
-use Rattle.words.specs.declared.Refusal.{Refusal}
-use Rattle.words.specs.declared.Refusal.the-variants.{ShortBuffer}
-use Rattle.words.specs.declared.Checked.{Checked}
-use Rattle.words.specs.declared.Checked.the-variants as checked
+use Rattle.net.specs.declared.Refusal.{Refusal}
+use Rattle.net.specs.declared.Refusal.the-variants.{ShortBuffer}
+use Rattle.net.specs.declared.Checked.{Checked}
+use Rattle.net.specs.declared.Checked.the-variants as checked
 use Rattle.completion.specs.Table.{Completion, completion, completionNet, completionChecked}
 use Rattle.completion.specs.declared.Completed.{Completed}
 use Rattle.completion.specs.declared.Completed.the-variants as completed

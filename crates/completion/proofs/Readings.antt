@@ -6,9 +6,9 @@ use Rattle.theory.specs.Marks.{mark, link, links, command, round}
 use Rattle.theory.specs.Scans.{same, rounds}
 use Rattle.theory.specs.Completion.{row, rows, complete}
 use Rattle.theory.specs.NetM.{M}
-use Rattle.words.specs.Legal.{legalPrefix}
-use Rattle.words.specs.Table.{checkNet}
-use Rattle.words.specs.declared.Refusal.the-variants.{TooManyNodes, IllegalWord, ShortBuffer}
+use Rattle.net.specs.Legal.{legalPrefix}
+use Rattle.net.specs.Table.{checkNet}
+use Rattle.net.specs.declared.Refusal.the-variants.{TooManyNodes, IllegalWord, ShortBuffer}
 use Rattle.completion.specs.Table.{completion, completionNet, completionChecked, completedBy}
 use Rattle.completion.specs.declared.Completed.the-variants.{Done, Short, Refused}
 

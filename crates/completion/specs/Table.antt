@@ -5,11 +5,11 @@ use mathlib.Core.List.{List, _++_}
 use lib.Dec.{ltb}
 use lib.ListN.{length, drop}
 use Rattle.theory.specs.Completion.{complete}
-use Rattle.words.specs.Table.{checkNet, Row, row, refusalRow}
-use Rattle.words.specs.declared.Refusal.the-variants.{ShortBuffer}
-use Rattle.words.specs.declared.Checked.{Checked}
-use Rattle.words.specs.declared.Checked.the-variants as checked
-use Rattle.starts.specs.Starts.{cleared}
+use Rattle.net.specs.Table.{checkNet, Row, row, refusalRow}
+use Rattle.net.specs.declared.Refusal.the-variants.{ShortBuffer}
+use Rattle.net.specs.declared.Checked.{Checked}
+use Rattle.net.specs.declared.Checked.the-variants as checked
+use Rattle.scan_start.specs.Starts.{cleared}
 use Rattle.completion.specs.declared.Completed.{Completed}
 use Rattle.completion.specs.declared.Completed.the-variants as completed
 

@@ -3,12 +3,12 @@ ghost use mathlib.Core.Path.{_≡_};
 ghost use Prim.Native.Nat.{_+_};
 ghost use Rattle.theory.specs.Nets.{Net};
 ghost use Rattle.completion.specs.Table.{completion, completionNet, completedBy};
-use listing::count_rows;
-use listing::write_rows;
-use starts::clear;
-use words::Checked;
-use words::Refusal;
-use words::check_net;
+use completion_list::count_rows;
+use completion_list::write_rows;
+use net::Checked;
+use net::Refusal;
+use net::check_net;
+use scan_start::clear;
 
 // What a completion answers: how many words it wrote, or how many the list would need (row 8), or a refusal.
 pub enum Completed {

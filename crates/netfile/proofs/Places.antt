@@ -8,13 +8,13 @@ use native.Mathlib.Omega.{arith}
 use native.Mathlib.Decide.{decLt}
 use lib.ListN.{length}
 use lib.Dec.{eqb}
-use Rattle.laws.proofs.Booleans.{clash, not-so}
-use Rattle.laws.proofs.Deciding.{Decides, decides-equal, decides-most, decides-both}
+use Rattle.theory_laws.proofs.Booleans.{clash, not-so}
+use Rattle.theory_laws.proofs.Deciding.{Decides, decides-equal, decides-most, decides-both}
 use Rattle.netfile.proofs.Reading.{short, long, first-closed, second-closed, third-closed, all-open}
-use Rattle.numbers.specs.Bytes.{u32At}
-use Rattle.entries.specs.Entries.{rightLength, rightEnd, entryAt}
+use Rattle.netfile_numbers.specs.Bytes.{u32At}
+use Rattle.netfile_entry.specs.Entries.{rightLength, rightEnd, entryAt}
 use Rattle.netfile.specs.Contents.{contentsOf}
-use Rattle.entries.specs.declared.Entry.the-variants.{Open, Closed}
+use Rattle.netfile_entry.specs.declared.Entry.the-variants.{Open, Closed}
 use Rattle.netfile.specs.declared.Contents.{Contents}
 use Rattle.netfile.specs.declared.Contents.the-variants.{Bodies, Malformed}
 

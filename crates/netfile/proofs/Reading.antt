@@ -6,11 +6,11 @@ use native.Mathlib.Omega.{arith}
 use borrow.Author.Tests.{lt-ltb, le-ltb}
 use lib.ListN.{length, take, drop, length-drop}
 use lib.Seq.{take-all}
-use Rattle.laws.proofs.Booleans.{or-true}
+use Rattle.theory_laws.proofs.Booleans.{or-true}
 use Rattle.netfile.specs.Contents.{fileLimit, withFirst, contentsOf, bodiesOf}
-use Rattle.entries.specs.Entries.{entryAt}
-use Rattle.entries.specs.declared.Entry.{Entry}
-use Rattle.entries.specs.declared.Entry.the-variants.{Open, Closed}
+use Rattle.netfile_entry.specs.Entries.{entryAt}
+use Rattle.netfile_entry.specs.declared.Entry.{Entry}
+use Rattle.netfile_entry.specs.declared.Entry.the-variants.{Open, Closed}
 use Rattle.netfile.specs.declared.Contents.{Contents}
 use Rattle.netfile.specs.declared.Contents.the-variants.{Bodies, Malformed}
 

@@ -3,10 +3,10 @@ use Prim.Native.Nat.{ℕ, zero, suc, _≤_}
 use mathlib.Core.Path.{_≡_, refl, sym, ap, _∙_}
 use mathlib.Core.List.{List}
 use lib.ListN.{length}
-use Rattle.words.specs.Table.{Row}
-use Rattle.entries.specs.Entries.{entryAt}
-use Rattle.entries.specs.declared.Entry.{Entry}
-use Rattle.entries.specs.declared.Entry.the-variants.{Open, Closed}
+use Rattle.net.specs.Table.{Row}
+use Rattle.netfile_entry.specs.Entries.{entryAt}
+use Rattle.netfile_entry.specs.declared.Entry.{Entry}
+use Rattle.netfile_entry.specs.declared.Entry.the-variants.{Open, Closed}
 use Rattle.netfile.specs.Contents.{fileLimit, contentsOf, contentsRow, entryRow}
 use Rattle.netfile.specs.declared.Contents.{Contents}
 use Rattle.netfile.specs.declared.Contents.the-variants.{Bodies, Malformed}

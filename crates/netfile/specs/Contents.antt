@@ -4,10 +4,10 @@ use mathlib.Core.Bool.{cond, _||_}
 use mathlib.Core.List.{List, [], _∷_}
 use lib.Dec.{ltb}
 use lib.ListN.{length, take, drop}
-use Rattle.words.specs.Table.{Row, row}
-use Rattle.entries.specs.Entries.{entryAt}
-use Rattle.entries.specs.declared.Entry.{Entry}
-use Rattle.entries.specs.declared.Entry.the-variants.{Open, Closed}
+use Rattle.net.specs.Table.{Row, row}
+use Rattle.netfile_entry.specs.Entries.{entryAt}
+use Rattle.netfile_entry.specs.declared.Entry.{Entry}
+use Rattle.netfile_entry.specs.declared.Entry.the-variants.{Open, Closed}
 use Rattle.netfile.specs.declared.Contents.{Contents}
 use Rattle.netfile.specs.declared.Contents.the-variants.{Bodies, Malformed}
 

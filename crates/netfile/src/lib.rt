@@ -2,8 +2,8 @@
 ghost use mathlib.Core.Path.{_≡_};
 ghost use mathlib.Core.List.{map};
 ghost use Rattle.netfile.specs.Contents.{contentsOf, bodiesOf};
-use entries::Entry;
-use entries::open_entry;
+use netfile_entry::Entry;
+use netfile_entry::open_entry;
 
 // The size of the contents, with which every file begins.
 const CONTENTS_SIZE: usize = 24;

@@ -7,7 +7,7 @@ use native.Mathlib.Omega.{arith}
 use lib.ListN.{length, getD, drop, List·getD-append}
 use lib.Dec.{ltb, leb}
 use borrow.Author.Tests.{leb-false, ltb-false, not-false, not-true}
-use Rattle.laws.proofs.Booleans.{or-none-left, or-none-right}
+use Rattle.theory_laws.proofs.Booleans.{or-none-left, or-none-right}
 use Rattle.theory.specs.Nets.{Kind, Net}
 use Rattle.theory.specs.Marks.{forward, kindly, forwardStart, kindStart}
 use Rattle.theory.specs.Scans.{after, rounds, forwardScan, kindScan}
@@ -17,13 +17,13 @@ use Rattle.theory.proofs.Growth.{Puts}
 use Rattle.theory.proofs.Starts.{forward-long, kind-long, forward-puts-8, kindly-puts-8}
 use Rattle.theory.proofs.Budgets.{spent-marks}
 use Rattle.theory.proofs.Bounds.{scan-long}
-use Rattle.machine.specs.Scanning.{Outcome, forwardScanned, kindScanned, scanRow}
-use Rattle.machine.specs.declared.Scanned.{Scanned}
-use Rattle.machine.specs.declared.Scanned.the-variants as scanned
-use Rattle.answers.specs.Table.{Question, questioned, answerAt, askedRow}
-use Rattle.answers.specs.declared.Answer.{Answer}
-use Rattle.answers.specs.declared.Asked.{Asked}
-use Rattle.answers.specs.declared.Asked.the-variants as asked
+use Rattle.scan.specs.Scanning.{Outcome, forwardScanned, kindScanned, scanRow}
+use Rattle.scan.specs.declared.Scanned.{Scanned}
+use Rattle.scan.specs.declared.Scanned.the-variants as scanned
+use Rattle.question.specs.Table.{Question, questioned, answerAt, askedRow}
+use Rattle.question.specs.declared.Answer.{Answer}
+use Rattle.question.specs.declared.Asked.{Asked}
+use Rattle.question.specs.declared.Asked.the-variants as asked
 use Rattle.promises.proofs.Demand1.{forward-obeys, kind-obeys, question-obeys}
 use Rattle.promises.proofs.Tests.{past-line-3}
 

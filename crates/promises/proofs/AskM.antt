@@ -5,16 +5,16 @@ use mathlib.Core.List.{List, [], _∷_}
 use lib.ListN.{length}
 use Rattle.theory.specs.Marks.{mark, link, links, command, round}
 use Rattle.theory.specs.Scans.{same, rounds}
-use Rattle.words.specs.Legal.{legalPrefix}
-use Rattle.words.specs.Table.{checkNet}
-use Rattle.answers.specs.Table.{questionNet, questionChecked}
-use Rattle.entries.specs.Entries.{entryAt}
+use Rattle.net.specs.Legal.{legalPrefix}
+use Rattle.net.specs.Table.{checkNet}
+use Rattle.question.specs.Table.{questionNet, questionChecked}
+use Rattle.netfile_entry.specs.Entries.{entryAt}
 use Rattle.netfile.specs.Contents.{contentsOf}
-use Rattle.numbers.specs.Bytes.{u32s}
-use Rattle.fields.specs.Decimal.{digits}
-use Rattle.lines.specs.Line.{lineOf}
-use Rattle.replies.specs.Replies.{linesOf, netText}
-use Rattle.text.specs.Text.{fileText, textOf}
+use Rattle.netfile_numbers.specs.Bytes.{u32s}
+use Rattle.text_field.specs.Decimal.{digits}
+use Rattle.ask_line.specs.Line.{lineOf}
+use Rattle.ask_net.specs.Replies.{linesOf, netText}
+use Rattle.ask_text.specs.Text.{fileText, textOf}
 
 -- Contents, nodes, words and questions.
 abbrev pub fileM : List ℕ

@@ -5,36 +5,36 @@ use mathlib.Core.Bool.{Bool, true, false, cond, not, _&&_, _||_}
 use mathlib.Core.List.{List, [], _∷_, _++_}
 use lib.Dec.{ltb, leb, eqb}
 use lib.ListN.{length, drop, take}
-use Rattle.laws.proofs.Booleans.{or-false}
+use Rattle.theory_laws.proofs.Booleans.{or-false}
 use Rattle.theory.specs.Words.{nodeLimit, wordLimit}
 use Rattle.theory.specs.Marks.{forward, kindly, forwardStart, kindStart}
 use Rattle.theory.specs.Scans.{after, rounds}
 use Rattle.theory.specs.declared.Command.{Command}
 use Rattle.theory.proofs.Budgets.{spent-marks}
-use Rattle.words.specs.Legal.{legalPrefix}
-use Rattle.words.specs.Table.{checkNet}
-use Rattle.words.specs.declared.Refusal.{Refusal}
-use Rattle.words.specs.declared.Refusal.the-variants.{TooManyNodes, TooManyWords, IllegalWord, BadQuestion, ShortBuffer}
-use Rattle.words.specs.declared.Checked.{Checked}
-use Rattle.words.specs.declared.Checked.the-variants as checked
-use Rattle.machine.specs.Scanning.{outcome, ran, scanNet, scanChecked, forwardScanned, kindScanned}
-use Rattle.starts.specs.Starts.{cleared}
-use Rattle.machine.specs.declared.Scanned.the-variants as scanned
-use Rattle.answers.specs.declared.Asked.the-variants as asked
-use Rattle.answers.specs.Table.{question, questionNet, questionChecked, questioned}
-use Rattle.clashes.specs.Table.{clash, clashNodes, firstClash, clashedRow, clashNet, clashChecked, clashedBy}
-use Rattle.clashes.specs.declared.Clashed.{Clashed}
-use Rattle.clashes.specs.declared.Clashed.the-variants as clashed
+use Rattle.net.specs.Legal.{legalPrefix}
+use Rattle.net.specs.Table.{checkNet}
+use Rattle.net.specs.declared.Refusal.{Refusal}
+use Rattle.net.specs.declared.Refusal.the-variants.{TooManyNodes, TooManyWords, IllegalWord, BadQuestion, ShortBuffer}
+use Rattle.net.specs.declared.Checked.{Checked}
+use Rattle.net.specs.declared.Checked.the-variants as checked
+use Rattle.scan.specs.Scanning.{outcome, ran, scanNet, scanChecked, forwardScanned, kindScanned}
+use Rattle.scan_start.specs.Starts.{cleared}
+use Rattle.scan.specs.declared.Scanned.the-variants as scanned
+use Rattle.question.specs.declared.Asked.the-variants as asked
+use Rattle.question.specs.Table.{question, questionNet, questionChecked, questioned}
+use Rattle.clash.specs.Table.{clash, clashNodes, firstClash, clashedRow, clashNet, clashChecked, clashedBy}
+use Rattle.clash.specs.declared.Clashed.{Clashed}
+use Rattle.clash.specs.declared.Clashed.the-variants as clashed
 use Rattle.completion.specs.Table.{completionNet, completionChecked, completedBy, completion}
 use Rattle.completion.specs.declared.Completed.the-variants as completed
-use Rattle.reasons.specs.Table.{reasonNet, reasonChecked, reasoned, reason}
-use Rattle.reasons.specs.declared.Reasoned.the-variants as reasonedAs
-use Rattle.checks.specs.Table.{verdictNet, verdictChecked, verdict}
-use Rattle.checks.specs.declared.Verdict.the-variants as verdictAs
-use Rattle.numbers.specs.Bytes.{u32At}
+use Rattle.reason.specs.Table.{reasonNet, reasonChecked, reasoned, reason}
+use Rattle.reason.specs.declared.Reasoned.the-variants as reasonedAs
+use Rattle.reason_check.specs.Table.{verdictNet, verdictChecked, verdict}
+use Rattle.reason_check.specs.declared.Verdict.the-variants as verdictAs
+use Rattle.netfile_numbers.specs.Bytes.{u32At}
 use Rattle.netfile.specs.Contents.{contentsOf, bodiesOf, withFirst, withSecond, withThird}
-use Rattle.entries.specs.Entries.{entryAt}
-use Rattle.entries.specs.declared.Entry.the-variants.{Open, Closed}
+use Rattle.netfile_entry.specs.Entries.{entryAt}
+use Rattle.netfile_entry.specs.declared.Entry.the-variants.{Open, Closed}
 use Rattle.netfile.specs.declared.Contents.{Contents}
 use Rattle.netfile.specs.declared.Contents.the-variants.{Bodies, Malformed}
 use Rattle.promises.specs.Tables.{call}

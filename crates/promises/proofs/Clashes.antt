@@ -9,21 +9,21 @@ use native.Mathlib.Decide.{decLt, ℕ-discrete}
 use lib.Dec.{eqb, ltb}
 use lib.ListN.{length, getD}
 use borrow.Author.Tests.{ltb-true, ltb-false}
-use Rattle.laws.proofs.Booleans.{clash as contradiction, and-left, and-right, and-both}
+use Rattle.theory_laws.proofs.Booleans.{clash as contradiction, and-left, and-right, and-both}
 use Rattle.theory.specs.Words.{is, isnt}
 use Rattle.theory.specs.Nets.{Kind, Net}
 use Rattle.theory.specs.Marks.{T, F, has}
 use Rattle.theory.specs.Completion.{fullMarks}
 use Rattle.theory.proofs.Completing.{full-exact}
-use Rattle.words.specs.Table.{checkNet}
-use Rattle.words.specs.declared.Refusal.the-variants.{ShortBuffer}
-use Rattle.words.specs.declared.Checked.{Checked}
-use Rattle.words.specs.declared.Checked.the-variants as checked
-use Rattle.words.proofs.NetCheck.{check-is-net}
-use Rattle.starts.specs.Starts.{cleared}
-use Rattle.clashes.specs.Table.{clash, firstBoth, clashNodes, firstClash, clashNet, clashChecked, clashedBy, clashedRow}
-use Rattle.clashes.specs.declared.Clashed.{Clashed}
-use Rattle.clashes.specs.declared.Clashed.the-variants.{At, Nowhere, Refused}
+use Rattle.net.specs.Table.{checkNet}
+use Rattle.net.specs.declared.Refusal.the-variants.{ShortBuffer}
+use Rattle.net.specs.declared.Checked.{Checked}
+use Rattle.net.specs.declared.Checked.the-variants as checked
+use Rattle.net.proofs.NetCheck.{check-is-net}
+use Rattle.scan_start.specs.Starts.{cleared}
+use Rattle.clash.specs.Table.{clash, firstBoth, clashNodes, firstClash, clashNet, clashChecked, clashedBy, clashedRow}
+use Rattle.clash.specs.declared.Clashed.{Clashed}
+use Rattle.clash.specs.declared.Clashed.the-variants.{At, Nowhere, Refused}
 use Rattle.promises.specs.Calls.{noClash}
 use Rattle.promises.specs.Engines.{ours}
 use Rattle.promises.specs.Clashing.{ClashAt, SmallestClash, Clashing}

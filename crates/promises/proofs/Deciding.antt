@@ -5,7 +5,7 @@ use mathlib.Core.Bool.{Bool, true, false, cond, not}
 use mathlib.Core.List.{List, [], _∷_}
 use lib.Dec.{eqb}
 use borrow.Author.Tests.{eqb-true, eqb-false, not-true}
-use Rattle.laws.proofs.Booleans.{clash, and-left, and-right}
+use Rattle.theory_laws.proofs.Booleans.{clash, and-left, and-right}
 use Rattle.promises.specs.Tables.{Line, call, NoLine, choose, Due, outcomeOf, among, distinct, Numbered, Table, Obeys}
 
 -- A number that is not among some lines is neither the first line's nor among the rest.

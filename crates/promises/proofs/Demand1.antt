@@ -6,19 +6,19 @@ use mathlib.Core.Bool.{Bool, true, false, cond}
 use mathlib.Core.List.{List}
 use mathlib.Core.Logic.{_⊎_, inl, inr}
 use lib.Dec.{eqb, ltb}
-use Rattle.laws.proofs.Booleans.{clash as contradiction}
+use Rattle.theory_laws.proofs.Booleans.{clash as contradiction}
 use Rattle.theory.specs.Words.{signAt}
 use Rattle.theory.specs.Completion.{fullMarks}
 use Rattle.theory.specs.Checks.{passes}
-use Rattle.words.specs.Table.{checkNet}
-use Rattle.machine.specs.Scanning.{forwardScanned, kindScanned}
-use Rattle.answers.specs.Table.{questioned}
-use Rattle.clashes.specs.Table.{firstBoth, firstClash, clashNodes, clashedRow, clashedBy}
-use Rattle.clashes.specs.declared.Clashed.the-variants as clashed
+use Rattle.net.specs.Table.{checkNet}
+use Rattle.scan.specs.Scanning.{forwardScanned, kindScanned}
+use Rattle.question.specs.Table.{questioned}
+use Rattle.clash.specs.Table.{firstBoth, firstClash, clashNodes, clashedRow, clashedBy}
+use Rattle.clash.specs.declared.Clashed.the-variants as clashed
 use Rattle.completion.specs.Table.{completedBy}
-use Rattle.reasons.specs.Table.{reasoned}
-use Rattle.checks.specs.Table.{verdict}
-use Rattle.checks.specs.declared.Verdict.the-variants.{Holds, Fails}
+use Rattle.reason.specs.Table.{reasoned}
+use Rattle.reason_check.specs.Table.{verdict}
+use Rattle.reason_check.specs.declared.Verdict.the-variants.{Holds, Fails}
 use Rattle.promises.specs.Tables.{Obeys}
 use Rattle.promises.specs.Calls.{netTable, netDone, forwardTable, forwardDone, kindTable, kindDone, questionTable, questionDone, noClash, clashTable, clashDone, completionTable, completionDone, reasonTable, reasonDone, checkTable, checkDone, readFrom, fileTable, fileDone}
 use Rattle.promises.specs.Numbers.{checkedNumber, scanNumber, questionNumber, clashNumber, completionNumber, reasonNumber, verdictNumber, readingNumber}

@@ -15,11 +15,11 @@ use Rattle.theory.specs.declared.Command.{Command}
 use Rattle.theory.proofs.Budgets.{last-round, count-unique}
 use Rattle.theory.proofs.Bounds.{forward-counted, forward-done, kind-counted}
 use Rattle.theory.proofs.Sides.{forward-exact, forward-spent, kind-exact, kind-exact-up, kind-spent, kind-spent-up}
-use Rattle.machine.specs.declared.Scanned.the-variants as scanned
-use Rattle.answers.specs.Table.{question, questioned, answerAt}
-use Rattle.answers.specs.declared.Answer.{Answer}
-use Rattle.answers.specs.declared.Answer.the-variants.{None, Yes, No, Both}
-use Rattle.answers.specs.declared.Asked.the-variants as asked
+use Rattle.scan.specs.declared.Scanned.the-variants as scanned
+use Rattle.question.specs.Table.{question, questioned, answerAt}
+use Rattle.question.specs.declared.Answer.{Answer}
+use Rattle.question.specs.declared.Answer.the-variants.{None, Yes, No, Both}
+use Rattle.question.specs.declared.Asked.the-variants as asked
 use Rattle.promises.specs.Engines.{Engine, ours}
 use Rattle.promises.specs.Demand2.{Smallest, says, Demand2}
 use Rattle.promises.proofs.SmallestSet.{smallest-is-supported}

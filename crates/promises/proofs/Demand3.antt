@@ -16,8 +16,8 @@ use Rattle.theory.specs.Completion.{complete}
 use Rattle.theory.specs.Completion as theory
 use Rattle.theory.proofs.Completing.{complete-completed, completed-unique}
 use Rattle.theory.proofs.Demand3.{complete-net, complete-again, complete-part, alike as complete-alike, joining-keeps, others-keep, SameAnswer}
-use Rattle.words.proofs.NetCheck.{net-is-checked}
-use Rattle.starts.specs.Starts.{cleared}
+use Rattle.net.proofs.NetCheck.{net-is-checked}
+use Rattle.scan_start.specs.Starts.{cleared}
 use Rattle.completion.specs.Table.{Completion, completion, completedBy, completionNet, completionChecked, completedRow}
 use Rattle.completion.specs.declared.Completed.{Completed}
 use Rattle.completion.specs.declared.Completed.the-variants as completed

@@ -4,19 +4,19 @@ use mathlib.Core.List.{[], _∷_}
 use native.Mathlib.Omega.{arith}
 use lib.ListN.{getD}
 use Rattle.theory.specs.NetM.{M}
-use Rattle.laws.proofs.Booleans.{clash}
+use Rattle.theory_laws.proofs.Booleans.{clash}
 use Rattle.theory.specs.Words.{is, isnt}
 use Rattle.theory.specs.Marks.{F, has, mark, link, links, command, round, blank}
 use Rattle.theory.specs.Scans.{same, rounds}
 use Rattle.theory.proofs.Loss.{two-is-not-four, nought-is-not-four}
-use Rattle.words.specs.Legal.{legalPrefix}
-use Rattle.words.specs.Table.{checkNet}
-use Rattle.machine.specs.Scanning.{Outcome}
-use Rattle.machine.specs.declared.Scanned.the-variants as scanned
-use Rattle.answers.specs.Table.{questioned, questionNet, questionChecked}
-use Rattle.clashes.specs.Table.{firstBoth, firstClash}
-use Rattle.answers.specs.declared.Answer.the-variants.{None, Yes}
-use Rattle.answers.specs.declared.Asked.the-variants as asked
+use Rattle.net.specs.Legal.{legalPrefix}
+use Rattle.net.specs.Table.{checkNet}
+use Rattle.scan.specs.Scanning.{Outcome}
+use Rattle.scan.specs.declared.Scanned.the-variants as scanned
+use Rattle.question.specs.Table.{questioned, questionNet, questionChecked}
+use Rattle.clash.specs.Table.{firstBoth, firstClash}
+use Rattle.question.specs.declared.Answer.the-variants.{None, Yes}
+use Rattle.question.specs.declared.Asked.the-variants as asked
 use Rattle.promises.specs.Demand2.{Demand2}
 use Rattle.promises.specs.Failed.{neverBack, classical, neverUp}
 use Rattle.promises.proofs.Demand2.{demand-2}

@@ -7,20 +7,20 @@ use native.Mathlib.Omega.{arith}
 use lib.Dec.{ltb, leb}
 use lib.ListN.{length, getD, drop, length-replicate}
 use borrow.Author.Tests.{ltb-false, le-ltb, lt-leb, leb-false}
-use Rattle.laws.proofs.Booleans.{or-none-left, or-none-right}
+use Rattle.theory_laws.proofs.Booleans.{or-none-left, or-none-right}
 use Rattle.theory.specs.Words.{Sign, is, isnt}
 use Rattle.theory.specs.Nets.{Kind, Net}
 use Rattle.theory.specs.Marks.{has, blank, markerOf}
 use Rattle.theory.specs.Scans.{forwardScan}
 use Rattle.theory.specs.Completion.{fullMarks}
 use Rattle.theory.proofs.Demand3.{SameAnswer}
-use Rattle.words.specs.Table.{badPair}
-use Rattle.words.specs.declared.Refusal.the-variants.{BadQuestion, ShortBuffer}
-use Rattle.words.proofs.NetCheck.{net-is-checked}
-use Rattle.answers.specs.Table.{question, questioned, questionNet, questionChecked, answerAt, readAt}
-use Rattle.answers.specs.declared.Answer.{Answer}
-use Rattle.answers.specs.declared.Asked.{Asked}
-use Rattle.answers.specs.declared.Asked.the-variants as asked
+use Rattle.net.specs.Table.{badPair}
+use Rattle.net.specs.declared.Refusal.the-variants.{BadQuestion, ShortBuffer}
+use Rattle.net.proofs.NetCheck.{net-is-checked}
+use Rattle.question.specs.Table.{question, questioned, questionNet, questionChecked, answerAt, readAt}
+use Rattle.question.specs.declared.Answer.{Answer}
+use Rattle.question.specs.declared.Asked.{Asked}
+use Rattle.question.specs.declared.Asked.the-variants as asked
 use Rattle.promises.specs.Demand2.{says}
 use Rattle.promises.specs.Demand3.{wordOf, saidBy}
 use Rattle.promises.proofs.Demand2.{answer-says}

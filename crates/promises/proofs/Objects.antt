@@ -11,10 +11,10 @@ use Rattle.theory.specs.Marks.{mark, link, links, command, round, blank, marker
 use Rattle.theory.specs.Scans.{same, rounds}
 use Rattle.theory.proofs.Inside.{legal-links}
 use Rattle.theory.proofs.Joining.{ends}
-use Rattle.words.specs.Legal.{legalPrefix}
-use Rattle.words.specs.Table.{checkNet}
-use Rattle.machine.specs.Scanning.{Outcome, forwardScanned, scanNet, scanChecked}
-use Rattle.machine.specs.declared.Scanned.the-variants as scanned
+use Rattle.net.specs.Legal.{legalPrefix}
+use Rattle.net.specs.Table.{checkNet}
+use Rattle.scan.specs.Scanning.{Outcome, forwardScanned, scanNet, scanChecked}
+use Rattle.scan.specs.declared.Scanned.the-variants as scanned
 
 -- One object, one kind, no words: the scan from the object leaves T on it.
 on-itself : forwardScanned 1 1 [] 0 1 (blank 2) ≡ record { answer = scanned.Done 1; marks = 1 ∷ 0 ∷ [] }

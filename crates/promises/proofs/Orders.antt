@@ -8,17 +8,17 @@ use native.Mathlib.Omega.{arith}
 use lib.Dec.{ltb, leb}
 use lib.ListN.{length, drop}
 use borrow.Author.Tests.{leb-false}
-use Rattle.laws.proofs.Booleans.{or-none-left}
+use Rattle.theory_laws.proofs.Booleans.{or-none-left}
 use Rattle.theory.specs.Nets.{Net}
 use Rattle.theory.specs.Marks.{forward, kindly, forwardStart, kindStart}
 use Rattle.theory.specs.Scans.{Scan, rounds}
 use Rattle.theory.proofs.Inside.{legal-inside}
 use Rattle.theory.proofs.Order.{Among, rounds-order}
 use Rattle.theory.proofs.Starts.{forward-long, kind-long, forward-puts-8, kindly-puts-8}
-use Rattle.words.specs.Table.{badPair}
-use Rattle.words.proofs.NetCheck.{net-is-checked}
-use Rattle.machine.specs.Scanning.{ran, badStart, scanNet, scanChecked, forwardScanned, kindScanned}
-use Rattle.answers.specs.Table.{questioned, readAt, questionNet, questionChecked}
+use Rattle.net.specs.Table.{badPair}
+use Rattle.net.proofs.NetCheck.{net-is-checked}
+use Rattle.scan.specs.Scanning.{ran, badStart, scanNet, scanChecked, forwardScanned, kindScanned}
+use Rattle.question.specs.Table.{questioned, readAt, questionNet, questionChecked}
 
 -- The same after two tests, where it is the same if the first does not apply.
 pub after-tests : {A : Type 0} (a b : Bool) (u v : A) {r q : A} → (a ≡ false → r ≡ q) → cond a u (cond b v r) ≡ cond a u (cond b v q)

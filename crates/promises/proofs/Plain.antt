@@ -9,15 +9,15 @@ use native.Mathlib.Decide.{decLt}
 use lib.Dec.{ltb, leb}
 use lib.ListN.{length}
 use borrow.Author.Tests.{ltb-false, le-ltb, leb-false, lt-leb}
-use Rattle.laws.proofs.Booleans.{clash, not-so}
+use Rattle.theory_laws.proofs.Booleans.{clash, not-so}
 use Rattle.theory.specs.Words.{nodeLimit, wordLimit}
 use Rattle.theory.specs.Nets.{Net}
 use Rattle.theory.specs.Marks.{forward, forwardStart}
 use Rattle.theory.specs.Scans.{Count, forwardScan}
-use Rattle.laws.proofs.Deciding.{Decides}
-use Rattle.words.specs.Legal.{legalPrefix}
-use Rattle.words.proofs.NetCheck.{FirstIllegal}
-use Rattle.machine.specs.Scanning.{forwardScanned}
+use Rattle.theory_laws.proofs.Deciding.{Decides}
+use Rattle.net.specs.Legal.{legalPrefix}
+use Rattle.net.proofs.NetCheck.{FirstIllegal}
+use Rattle.scan.specs.Scanning.{forwardScanned}
 use Rattle.promises.specs.Numbers.{scanNumber}
 use Rattle.promises.proofs.Demand1.{forward-obeys}
 use Rattle.promises.proofs.Tests.{line-1, line-2, line-3, past-line-3, line-4-start, line-5, line-6}

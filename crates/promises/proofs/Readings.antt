@@ -2,19 +2,19 @@
 use mathlib.Core.Path.{_≡_, refl}
 use mathlib.Core.Bool.{true}
 use mathlib.Core.List.{List, _∷_, List·Memᴰ, List·Memᴰ·head, List·Memᴰ·tail}
-use Rattle.laws.proofs.Booleans.{and-left, and-right}
+use Rattle.theory_laws.proofs.Booleans.{and-left, and-right}
 use Rattle.theory.specs.Marks.{mark, link, links, command, round}
 use Rattle.theory.specs.Scans.{same, rounds}
 use Rattle.theory.specs.Completion.{row, rows, complete}
 use Rattle.theory.specs.Searches.{arcs, level, levels, distances, next, descend, reasonStates, firsts, reasonList}
 use Rattle.theory.proofs.Rounds.{same-eq}
-use Rattle.words.specs.Legal.{legalPrefix}
-use Rattle.words.specs.Table.{checkNet}
-use Rattle.machine.specs.Scanning.{scanNet, scanChecked}
-use Rattle.answers.specs.Table.{questionNet, questionChecked}
-use Rattle.clashes.specs.Table.{firstBoth, firstClash, clashNet, clashChecked}
+use Rattle.net.specs.Legal.{legalPrefix}
+use Rattle.net.specs.Table.{checkNet}
+use Rattle.scan.specs.Scanning.{scanNet, scanChecked}
+use Rattle.question.specs.Table.{questionNet, questionChecked}
+use Rattle.clash.specs.Table.{firstBoth, firstClash, clashNet, clashChecked}
 use Rattle.completion.specs.Table.{completionNet, completionChecked}
-use Rattle.reasons.specs.Table.{reasonNet, reasonChecked}
+use Rattle.reason.specs.Table.{reasonNet, reasonChecked}
 use Rattle.promises.specs.Readings.{Entry, readings, allAgree}
 
 -- The statements give every reading as the paper has it.

@@ -8,7 +8,7 @@ use native.Mathlib.Omega.{arith}
 use lib.Dec.{eqb, ltb, leb}
 use lib.ListN.{length, getD, drop, List·getD-append}
 use borrow.Author.Tests.{leb-false, ltb-true, ltb-false, eqb-false}
-use Rattle.laws.proofs.Booleans.{clash, or-none-left, or-none-right}
+use Rattle.theory_laws.proofs.Booleans.{clash, or-none-left, or-none-right}
 use Rattle.theory.specs.Words.{Sign, signAt}
 use Rattle.theory.specs.Nets.{Kind, Links, Net}
 use Rattle.theory.specs.Support.{Supported}
@@ -18,13 +18,13 @@ use Rattle.theory.specs.Checks.{Passes, passes}
 use Rattle.theory.proofs.Distances.{distances-small, distances-length, distances-right}
 use Rattle.theory.proofs.Reason.{reason-shortest}
 use Rattle.theory.proofs.Check.{passes-exactly, passes-supported}
-use Rattle.words.specs.declared.Refusal.{Refusal}
-use Rattle.reasons.specs.Table.{Reason, reasoned, reasonedRow}
-use Rattle.reasons.specs.declared.Reasoned.{Reasoned}
-use Rattle.reasons.specs.declared.Reasoned.the-variants as reasonedAs
-use Rattle.checks.specs.Table.{verdict, verdictRow}
-use Rattle.checks.specs.declared.Verdict.{Verdict}
-use Rattle.checks.specs.declared.Verdict.the-variants.{Holds, Fails}
+use Rattle.net.specs.declared.Refusal.{Refusal}
+use Rattle.reason.specs.Table.{Reason, reasoned, reasonedRow}
+use Rattle.reason.specs.declared.Reasoned.{Reasoned}
+use Rattle.reason.specs.declared.Reasoned.the-variants as reasonedAs
+use Rattle.reason_check.specs.Table.{verdict, verdictRow}
+use Rattle.reason_check.specs.declared.Verdict.{Verdict}
+use Rattle.reason_check.specs.declared.Verdict.the-variants.{Holds, Fails}
 use Rattle.promises.specs.Calls.{reasonOf, filled}
 use Rattle.promises.specs.Engines.{ours}
 use Rattle.promises.specs.Reasoning.{ReasonOf, Reasoning}

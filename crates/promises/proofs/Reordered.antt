@@ -9,7 +9,7 @@ use native.Mathlib.Omega.{arith}
 use lib.Dec.{eqb, ltb}
 use lib.ListN.{length, getD, drop}
 use lib.Seq.{ext-getD}
-use Rattle.laws.proofs.Booleans.{same-test}
+use Rattle.theory_laws.proofs.Booleans.{same-test}
 use Rattle.theory.specs.Words.{Sign, is, isnt, number, signAt}
 use Rattle.theory.specs.Nets.{Kind, Links, Net}
 use Rattle.theory.specs.Scans.{Scan}
@@ -22,13 +22,13 @@ use Rattle.theory.proofs.Best.{best-unique}
 use Rattle.theory.proofs.Distances.{distance-into, distance-unique, distances-length, distances-right}
 use Rattle.theory.proofs.Reason.{best-into, states-best}
 use Rattle.theory.proofs.Steps.{listed-exactly}
-use Rattle.words.specs.Table.{badStatement}
-use Rattle.words.proofs.NetCheck.{net-is-checked}
-use Rattle.clashes.specs.Table.{firstClash, clashNet, clashChecked, clashedBy}
+use Rattle.net.specs.Table.{badStatement}
+use Rattle.net.proofs.NetCheck.{net-is-checked}
+use Rattle.clash.specs.Table.{firstClash, clashNet, clashChecked, clashedBy}
 use Rattle.completion.specs.Table.{completionNet, completionChecked, completedBy}
-use Rattle.reasons.specs.Table.{Reason, reason, write, reasonSearched, reasonNet, reasonChecked, reasoned}
-use Rattle.reasons.specs.declared.Reasoned.the-variants.{Unsupported}
-use Rattle.checks.specs.Table.{verdictNet, verdictChecked, verdict}
+use Rattle.reason.specs.Table.{Reason, reason, write, reasonSearched, reasonNet, reasonChecked, reasoned}
+use Rattle.reason.specs.declared.Reasoned.the-variants.{Unsupported}
+use Rattle.reason_check.specs.Table.{verdictNet, verdictChecked, verdict}
 use Rattle.promises.proofs.Orders.{after-tests, forward-same}
 use Rattle.promises.proofs.Reasoning.{node-of, kind-of, near}
 

@@ -10,7 +10,7 @@ use native.Mathlib.Nat.{le-refl}
 use lib.Dec.{eqb, ltb, leb}
 use lib.ListN.{length, getD}
 use borrow.Author.Tests.{le-ltb, not-true}
-use Rattle.laws.proofs.Booleans.{clash}
+use Rattle.theory_laws.proofs.Booleans.{clash}
 use Rattle.theory.specs.Words.{Sign, nodeLimit, wordLimit}
 use Rattle.theory.specs.Nets.{Kind, Links, Net}
 use Rattle.theory.specs.Support.{Supported}
@@ -18,15 +18,15 @@ use Rattle.theory.specs.Scans.{rounds, Count}
 use Rattle.theory.specs.Reasons.{never}
 use Rattle.theory.specs.Searches.{distances}
 use Rattle.theory.specs.declared.Command.{Command}
-use Rattle.laws.proofs.Deciding.{Decides, decides-below, decides-most, decides-equal, decides-either, decides-same}
+use Rattle.theory_laws.proofs.Deciding.{Decides, decides-below, decides-most, decides-equal, decides-either, decides-same}
 use Rattle.theory.proofs.Budgets.{ends-within, last-round, count-unique}
 use Rattle.theory.proofs.Distances.{distances-small}
 use Rattle.theory.proofs.Reason.{reason-exactly}
 use Rattle.theory.proofs.Inside.{at-member}
-use Rattle.words.specs.Legal.{legal, legalPrefix}
-use Rattle.words.proofs.Legality.{legal-means, prefix-legal, prefix-illegal, prefix-is}
-use Rattle.words.proofs.NetCheck.{FirstIllegal, check-is-net}
-use Rattle.words.specs.Table.{checkNet}
+use Rattle.net.specs.Legal.{legal, legalPrefix}
+use Rattle.net.proofs.Legality.{legal-means, prefix-legal, prefix-illegal, prefix-is}
+use Rattle.net.proofs.NetCheck.{FirstIllegal, check-is-net}
+use Rattle.net.specs.Table.{checkNet}
 use Rattle.promises.specs.Calls.{noClash}
 use Rattle.promises.specs.Clashing.{ClashAt}
 use Rattle.promises.proofs.Clashes.{no-clash-exactly}

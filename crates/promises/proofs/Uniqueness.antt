@@ -4,23 +4,23 @@ use Prim.Native.Nat.{ℕ}
 use mathlib.Core.Path.{_≡_, refl, sym, ap, _∙_}
 use mathlib.Core.List.{List, _++_}
 use lib.ListN.{length, drop}
-use Rattle.words.specs.Table.{checkNet}
-use Rattle.words.specs.declared.Checked.{Checked}
-use Rattle.machine.specs.Scanning.{Outcome, outcome, forwardScanned, kindScanned}
-use Rattle.machine.specs.declared.Scanned.{Scanned}
-use Rattle.answers.specs.Table.{Question, question, questioned}
-use Rattle.clashes.specs.Table.{Clash, clash, clashedBy}
-use Rattle.answers.specs.declared.Asked.{Asked}
-use Rattle.clashes.specs.declared.Clashed.{Clashed}
+use Rattle.net.specs.Table.{checkNet}
+use Rattle.net.specs.declared.Checked.{Checked}
+use Rattle.scan.specs.Scanning.{Outcome, outcome, forwardScanned, kindScanned}
+use Rattle.scan.specs.declared.Scanned.{Scanned}
+use Rattle.question.specs.Table.{Question, question, questioned}
+use Rattle.clash.specs.Table.{Clash, clash, clashedBy}
+use Rattle.question.specs.declared.Asked.{Asked}
+use Rattle.clash.specs.declared.Clashed.{Clashed}
 use Rattle.completion.specs.Table.{Completion, completion, completedBy}
 use Rattle.completion.specs.declared.Completed.{Completed}
-use Rattle.reasons.specs.Table.{Reason, reason, reasoned}
-use Rattle.reasons.specs.declared.Reasoned.{Reasoned}
-use Rattle.checks.specs.Table.{verdict}
-use Rattle.checks.specs.declared.Verdict.{Verdict}
+use Rattle.reason.specs.Table.{Reason, reason, reasoned}
+use Rattle.reason.specs.declared.Reasoned.{Reasoned}
+use Rattle.reason_check.specs.Table.{verdict}
+use Rattle.reason_check.specs.declared.Verdict.{Verdict}
 use Rattle.netfile.specs.Contents.{contentsOf, bodiesOf}
 use Rattle.netfile.specs.declared.Contents.{Contents}
-use Rattle.text.specs.Text.{textOf}
+use Rattle.ask_text.specs.Text.{textOf}
 use Rattle.promises.specs.Tables.{Line, Obeys}
 
 -- Two things that are both a third are one.

@@ -10,7 +10,7 @@ use lib.Dec.{ltb, eqb}
 use lib.ListN.{length, getD, length-replicate}
 use borrow.Author.Tests.{le-ltb}
 use Rattle.theory.specs.NetM.{M}
-use Rattle.laws.proofs.Booleans.{clash}
+use Rattle.theory_laws.proofs.Booleans.{clash}
 use Rattle.theory.specs.Words.{isnt, wordLimit}
 use Rattle.theory.specs.Nets.{Net}
 use Rattle.theory.specs.Support.{r1}
@@ -18,17 +18,17 @@ use Rattle.theory.specs.Marks.{F, has, mark, link, links, command, round, forwa
 use Rattle.theory.specs.Scans.{same, rounds}
 use Rattle.theory.proofs.Budgets.{count-unique}
 use Rattle.theory.proofs.Loss.{nought-is-not-four}
-use Rattle.words.specs.Legal.{legalPrefix}
-use Rattle.words.specs.Table.{checkNet, refusalRow}
-use Rattle.words.specs.declared.Refusal.{Refusal}
-use Rattle.words.specs.declared.Refusal.the-variants.{TooManyNodes, TooManyWords, IllegalWord, BadQuestion, ShortBuffer}
-use Rattle.machine.specs.Scanning.{Outcome, forwardScanned, scanNet, scanChecked}
-use Rattle.starts.specs.Starts.{cleared}
-use Rattle.machine.specs.declared.Scanned.the-variants as scanned
-use Rattle.answers.specs.Table.{questionNet, questionChecked, askedRow}
-use Rattle.answers.specs.declared.Answer.the-variants.{None}
-use Rattle.answers.specs.declared.Asked.{Asked}
-use Rattle.answers.specs.declared.Asked.the-variants as asked
+use Rattle.net.specs.Legal.{legalPrefix}
+use Rattle.net.specs.Table.{checkNet, refusalRow}
+use Rattle.net.specs.declared.Refusal.{Refusal}
+use Rattle.net.specs.declared.Refusal.the-variants.{TooManyNodes, TooManyWords, IllegalWord, BadQuestion, ShortBuffer}
+use Rattle.scan.specs.Scanning.{Outcome, forwardScanned, scanNet, scanChecked}
+use Rattle.scan_start.specs.Starts.{cleared}
+use Rattle.scan.specs.declared.Scanned.the-variants as scanned
+use Rattle.question.specs.Table.{questionNet, questionChecked, askedRow}
+use Rattle.question.specs.declared.Answer.the-variants.{None}
+use Rattle.question.specs.declared.Asked.{Asked}
+use Rattle.question.specs.declared.Asked.the-variants as asked
 use Rattle.promises.specs.Tables.{Due}
 use Rattle.promises.specs.Calls.{questionTable}
 use Rattle.promises.specs.Engines.{Engine}

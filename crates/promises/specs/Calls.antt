@@ -11,25 +11,25 @@ use Rattle.theory.specs.Completion.{complete}
 use Rattle.theory.specs.Reasons.{never}
 use Rattle.theory.specs.Searches.{distances, reasonStates, reasonList}
 use Rattle.theory.specs.Checks.{passes}
-use Rattle.words.specs.Legal.{legalPrefix}
-use Rattle.words.specs.declared.Checked.{Checked}
-use Rattle.words.specs.declared.Checked.the-variants as checked
-use Rattle.words.specs.declared.Refusal.{Refusal}
-use Rattle.words.specs.declared.Refusal.the-variants.{TooManyNodes, TooManyWords, IllegalWord, BadQuestion, ShortBuffer}
-use Rattle.machine.specs.Scanning.{Outcome, outcome}
-use Rattle.starts.specs.Starts.{cleared}
-use Rattle.machine.specs.declared.Scanned.the-variants as scanned
-use Rattle.answers.specs.Table.{Question, question, answerAt}
-use Rattle.clashes.specs.Table.{Clash, clash, clashNodes, firstClash, clashedRow}
-use Rattle.answers.specs.declared.Asked.the-variants as asked
-use Rattle.clashes.specs.declared.Clashed.the-variants as clashed
+use Rattle.net.specs.Legal.{legalPrefix}
+use Rattle.net.specs.declared.Checked.{Checked}
+use Rattle.net.specs.declared.Checked.the-variants as checked
+use Rattle.net.specs.declared.Refusal.{Refusal}
+use Rattle.net.specs.declared.Refusal.the-variants.{TooManyNodes, TooManyWords, IllegalWord, BadQuestion, ShortBuffer}
+use Rattle.scan.specs.Scanning.{Outcome, outcome}
+use Rattle.scan_start.specs.Starts.{cleared}
+use Rattle.scan.specs.declared.Scanned.the-variants as scanned
+use Rattle.question.specs.Table.{Question, question, answerAt}
+use Rattle.clash.specs.Table.{Clash, clash, clashNodes, firstClash, clashedRow}
+use Rattle.question.specs.declared.Asked.the-variants as asked
+use Rattle.clash.specs.declared.Clashed.the-variants as clashed
 use Rattle.completion.specs.Table.{Completion, completion}
 use Rattle.completion.specs.declared.Completed.the-variants as completed
-use Rattle.reasons.specs.Table.{Reason, reason}
-use Rattle.reasons.specs.declared.Reasoned.the-variants as reasoned
-use Rattle.checks.specs.declared.Verdict.{Verdict}
-use Rattle.checks.specs.declared.Verdict.the-variants as verdict
-use Rattle.numbers.specs.Bytes.{u32At}
+use Rattle.reason.specs.Table.{Reason, reason}
+use Rattle.reason.specs.declared.Reasoned.the-variants as reasoned
+use Rattle.reason_check.specs.declared.Verdict.{Verdict}
+use Rattle.reason_check.specs.declared.Verdict.the-variants as verdict
+use Rattle.netfile_numbers.specs.Bytes.{u32At}
 use Rattle.netfile.specs.Contents.{fileLimit, contentsOf, bodiesOf}
 use Rattle.netfile.specs.declared.Contents.{Contents}
 use Rattle.netfile.specs.declared.Contents.the-variants.{Bodies, Malformed}

@@ -5,7 +5,7 @@ use mathlib.Core.List.{List}
 use Rattle.theory.specs.Words.{is, isnt}
 use Rattle.theory.specs.Nets.{Kind, Links}
 use Rattle.theory.specs.Support.{Supported}
-use Rattle.clashes.specs.declared.Clashed.the-variants as clashed
+use Rattle.clash.specs.declared.Clashed.the-variants as clashed
 use Rattle.promises.specs.Engines.{Engine}
 
 -- The net supports both x → y and x ↛ y of the object x.

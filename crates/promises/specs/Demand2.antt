@@ -10,10 +10,10 @@ use Rattle.theory.specs.Nets.{Statements, Kind, Links}
 use Rattle.theory.specs.Support.{Supported, Closed}
 use Rattle.theory.specs.Marks.{At, markerOf, U, forward, kindly, forwardStart, kindStart}
 use Rattle.theory.specs.Scans.{Count}
-use Rattle.machine.specs.declared.Scanned.the-variants as scanned
-use Rattle.answers.specs.declared.Answer.{Answer}
-use Rattle.answers.specs.declared.Answer.the-variants.{None, Yes, No, Both}
-use Rattle.answers.specs.declared.Asked.the-variants as asked
+use Rattle.scan.specs.declared.Scanned.the-variants as scanned
+use Rattle.question.specs.declared.Answer.{Answer}
+use Rattle.question.specs.declared.Answer.the-variants.{None, Yes, No, Both}
+use Rattle.question.specs.declared.Asked.the-variants as asked
 use Rattle.promises.specs.Engines.{Engine}
 
 -- P is the smallest set that contains the links L and is closed under the five rules.

@@ -9,9 +9,9 @@ use lib.ListN.{length, drop}
 use Rattle.theory.specs.Words.{Sign, tailOf, wordLimit}
 use Rattle.theory.specs.Nets.{Net}
 use Rattle.theory.specs.Completion as theory
-use Rattle.starts.specs.Starts.{cleared}
-use Rattle.answers.specs.declared.Asked.{Asked}
-use Rattle.answers.specs.declared.Asked.the-variants as asked
+use Rattle.scan_start.specs.Starts.{cleared}
+use Rattle.question.specs.declared.Asked.{Asked}
+use Rattle.question.specs.declared.Asked.the-variants as asked
 use Rattle.completion.specs.Table.{completion}
 use Rattle.completion.specs.declared.Completed.the-variants as completed
 use Rattle.promises.specs.Engines.{Engine}

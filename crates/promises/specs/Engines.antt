@@ -1,15 +1,15 @@
 -- An engine: what it answers and leaves for each call. The promises are stated of any engine; ours is the one that the operations' statements describe.
 use Prim.Native.Nat.{ℕ}
 use mathlib.Core.List.{List}
-use Rattle.words.specs.Table.{checkNet}
-use Rattle.words.specs.declared.Checked.{Checked}
-use Rattle.machine.specs.Scanning.{Outcome, forwardScanned, kindScanned}
-use Rattle.answers.specs.Table.{Question, questioned}
-use Rattle.clashes.specs.Table.{Clash, clashedBy}
+use Rattle.net.specs.Table.{checkNet}
+use Rattle.net.specs.declared.Checked.{Checked}
+use Rattle.scan.specs.Scanning.{Outcome, forwardScanned, kindScanned}
+use Rattle.question.specs.Table.{Question, questioned}
+use Rattle.clash.specs.Table.{Clash, clashedBy}
 use Rattle.completion.specs.Table.{Completion, completedBy}
-use Rattle.reasons.specs.Table.{Reason, reasoned}
-use Rattle.checks.specs.Table.{verdict}
-use Rattle.checks.specs.declared.Verdict.{Verdict}
+use Rattle.reason.specs.Table.{Reason, reasoned}
+use Rattle.reason_check.specs.Table.{verdict}
+use Rattle.reason_check.specs.declared.Verdict.{Verdict}
 
 -- The eight operations on nets, each over objects, kinds, words, what is asked, and the lent buffers as they are at entry.
 pub record Engine : Type 0 where

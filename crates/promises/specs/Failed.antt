@@ -8,12 +8,12 @@ use Rattle.theory.specs.Marks.{T, F, toHead, forwardStart}
 use Rattle.theory.specs.Scans.{rounds, forwardScan}
 use Rattle.theory.specs.Downscan.{downscan}
 use Rattle.theory.specs.declared.Command.{Command}
-use Rattle.words.specs.declared.Refusal.the-variants.{BadQuestion, ShortBuffer}
-use Rattle.machine.specs.Scanning.{outcome, ran}
-use Rattle.machine.specs.declared.Scanned.the-variants as scanned
-use Rattle.answers.specs.Table.{question, readAt}
-use Rattle.answers.specs.declared.Answer.the-variants.{Yes}
-use Rattle.answers.specs.declared.Asked.the-variants as asked
+use Rattle.net.specs.declared.Refusal.the-variants.{BadQuestion, ShortBuffer}
+use Rattle.scan.specs.Scanning.{outcome, ran}
+use Rattle.scan.specs.declared.Scanned.the-variants as scanned
+use Rattle.question.specs.Table.{question, readAt}
+use Rattle.question.specs.declared.Answer.the-variants.{Yes}
+use Rattle.question.specs.declared.Asked.the-variants as asked
 use Rattle.promises.specs.Tables.{line, call}
 use Rattle.promises.specs.Calls.{netLines, questionTable, questionDone, noClash}
 use Rattle.promises.specs.Engines.{Engine, withKindScan, withQuestion}

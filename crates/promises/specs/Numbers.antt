@@ -1,14 +1,14 @@
 -- The paper's number of each outcome.
 use Prim.Native.Nat.{ℕ}
-use Rattle.words.specs.Table.{checkedRow}
-use Rattle.words.specs.declared.Checked.{Checked}
-use Rattle.machine.specs.Scanning.{Outcome, scanRow}
-use Rattle.answers.specs.Table.{Question, askedRow}
-use Rattle.clashes.specs.Table.{Clash, clashedRow}
+use Rattle.net.specs.Table.{checkedRow}
+use Rattle.net.specs.declared.Checked.{Checked}
+use Rattle.scan.specs.Scanning.{Outcome, scanRow}
+use Rattle.question.specs.Table.{Question, askedRow}
+use Rattle.clash.specs.Table.{Clash, clashedRow}
 use Rattle.completion.specs.Table.{Completion, completedRow}
-use Rattle.reasons.specs.Table.{Reason, reasonedRow}
-use Rattle.checks.specs.Table.{verdictRow}
-use Rattle.checks.specs.declared.Verdict.{Verdict}
+use Rattle.reason.specs.Table.{Reason, reasonedRow}
+use Rattle.reason_check.specs.Table.{verdictRow}
+use Rattle.reason_check.specs.declared.Verdict.{Verdict}
 use Rattle.netfile.specs.Contents.{contentsRow}
 use Rattle.promises.specs.Calls.{Reading}
 

@@ -6,12 +6,12 @@ use lib.ListN.{length, replicate}
 use Rattle.theory.specs.NetM.{M}
 use Rattle.theory.specs.Scans.{same}
 use Rattle.theory.specs.Downscan.{downscan}
-use Rattle.words.specs.Table.{Row}
-use Rattle.machine.specs.Scanning.{Outcome, forwardScanned, kindScanned, scanRow}
-use Rattle.answers.specs.Table.{Question, questioned, askedRow}
-use Rattle.clashes.specs.Table.{Clash, clashedBy, clashedRow}
+use Rattle.net.specs.Table.{Row}
+use Rattle.scan.specs.Scanning.{Outcome, forwardScanned, kindScanned, scanRow}
+use Rattle.question.specs.Table.{Question, questioned, askedRow}
+use Rattle.clash.specs.Table.{Clash, clashedBy, clashedRow}
 use Rattle.completion.specs.Table.{Completion, completedBy, completedRow}
-use Rattle.reasons.specs.Table.{Reason, reasoned, reasonedRow}
+use Rattle.reason.specs.Table.{Reason, reasoned, reasonedRow}
 
 -- One reading.
 pub record Entry : Type 0 where

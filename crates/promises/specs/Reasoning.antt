@@ -8,9 +8,9 @@ use Rattle.theory.specs.Nets.{Links}
 use Rattle.theory.specs.Support.{Supported}
 use Rattle.theory.specs.Reasons.{written, Shortest, Moves, goal, never, Distance}
 use Rattle.theory.specs.Checks.{Passes}
-use Rattle.words.specs.declared.Refusal.{Refusal}
-use Rattle.reasons.specs.declared.Reasoned.the-variants as reasoned
-use Rattle.checks.specs.declared.Verdict.the-variants.{Holds, Fails}
+use Rattle.net.specs.declared.Refusal.{Refusal}
+use Rattle.reason.specs.declared.Reasoned.the-variants as reasoned
+use Rattle.reason_check.specs.declared.Verdict.the-variants.{Holds, Fails}
 use Rattle.promises.specs.Engines.{Engine}
 
 -- The shortest reason: a path x, xs; ys of the net, and how long it is as it is written.

@@ -4,23 +4,23 @@ use mathlib.Core.List.{List, [], _∷_, _++_}
 use lib.Dec.{ltb}
 use lib.ListN.{length, drop}
 use Rattle.theory.specs.Marks.{round, forward, forwardStart}
-use Rattle.words.specs.declared.Refusal.{Refusal}
-use Rattle.words.specs.declared.Checked.the-variants as checked
-use Rattle.machine.specs.Scanning.{Outcome, outcome}
-use Rattle.starts.specs.Starts.{cleared}
-use Rattle.machine.specs.declared.Scanned.the-variants as scanned
-use Rattle.answers.specs.Table.{question, questioned}
-use Rattle.clashes.specs.Table.{clash}
-use Rattle.answers.specs.declared.Answer.the-variants.{None}
-use Rattle.answers.specs.declared.Asked.{Asked}
-use Rattle.answers.specs.declared.Asked.the-variants as asked
-use Rattle.clashes.specs.declared.Clashed.the-variants as clashed
+use Rattle.net.specs.declared.Refusal.{Refusal}
+use Rattle.net.specs.declared.Checked.the-variants as checked
+use Rattle.scan.specs.Scanning.{Outcome, outcome}
+use Rattle.scan_start.specs.Starts.{cleared}
+use Rattle.scan.specs.declared.Scanned.the-variants as scanned
+use Rattle.question.specs.Table.{question, questioned}
+use Rattle.clash.specs.Table.{clash}
+use Rattle.question.specs.declared.Answer.the-variants.{None}
+use Rattle.question.specs.declared.Asked.{Asked}
+use Rattle.question.specs.declared.Asked.the-variants as asked
+use Rattle.clash.specs.declared.Clashed.the-variants as clashed
 use Rattle.completion.specs.Table.{Completion, completion, fill}
 use Rattle.completion.specs.declared.Completed.the-variants as completed
-use Rattle.words.specs.declared.Refusal.the-variants.{ShortBuffer}
-use Rattle.reasons.specs.Table.{reason}
-use Rattle.reasons.specs.declared.Reasoned.the-variants as reasonedAs
-use Rattle.checks.specs.declared.Verdict.the-variants as verdictAs
+use Rattle.net.specs.declared.Refusal.the-variants.{ShortBuffer}
+use Rattle.reason.specs.Table.{reason}
+use Rattle.reason.specs.declared.Reasoned.the-variants as reasonedAs
+use Rattle.reason_check.specs.declared.Verdict.the-variants as verdictAs
 use Rattle.promises.specs.Tables.{line, call}
 use Rattle.promises.specs.Calls.{netLines, forwardTable}
 use Rattle.promises.specs.Engines.{Engine, withForwardScan, withQuestion, withCompletion}

@@ -2,21 +2,21 @@
 ghost use Prim.Native.Nat.{_≤_};
 use crate::other;
 use crate::proved;
-use cases::buffers::SECOND_BUFFER;
-use cases::buffers::lend_list;
-use cases::buffers::lend_scratch;
-use cases::buffers::lend_text;
-use cases::buffers::take_list;
-use cases::buffers::take_scratch;
-use cases::buffers::take_text;
-use cases::operations::Numbers;
-use cases::operations::Operation;
-use cases::places::bytes_between;
-use cases::places::halves_before;
-use cases::places::numbers_from;
-use cases::widths::from_bytes;
-use cases::widths::to_bytes;
-use cases::widths::to_halves;
+use readings_cases::buffers::SECOND_BUFFER;
+use readings_cases::buffers::lend_list;
+use readings_cases::buffers::lend_scratch;
+use readings_cases::buffers::lend_text;
+use readings_cases::buffers::take_list;
+use readings_cases::buffers::take_scratch;
+use readings_cases::buffers::take_text;
+use readings_cases::operations::Numbers;
+use readings_cases::operations::Operation;
+use readings_cases::places::bytes_between;
+use readings_cases::places::halves_before;
+use readings_cases::places::numbers_from;
+use readings_cases::widths::from_bytes;
+use readings_cases::widths::to_bytes;
+use readings_cases::widths::to_halves;
 use second::Outcome;
 
 // Which of the two engines.

@@ -6,12 +6,12 @@ mod other; // other.rt: the second engine's operations
 mod engines; // engines.rt: one case on one engine
 mod compare; // compare.rt: one line on both engines
 
-use cases::feed::Feed;
-use cases::feed::take_line;
-use cases::tally::Tally;
-use cases::tally::empty_tally;
-use cases::tally::show_tally;
 use compare::run_line;
+use readings_cases::feed::Feed;
+use readings_cases::feed::take_line;
+use readings_cases::tally::Tally;
+use readings_cases::tally::empty_tally;
+use readings_cases::tally::show_tally;
 
 // Runs every line of the input.
 fn run_lines(chunk: &mut [u8], room: &mut [u8]) -> Tally {

@@ -1,8 +1,8 @@
 // The operations of the second engine.
 use crate::outcomes::narrow;
 use crate::outcomes::row;
-use cases::operations::Numbers;
-use cases::operations::Operation;
+use readings_cases::operations::Numbers;
+use readings_cases::operations::Operation;
 use second::Outcome;
 
 // The check of a net.

@@ -1,6 +1,6 @@
 // The number and the values of an answer of the proved operations.
+use library_row::Given;
 use netfile::Contents;
-use rows::Given;
 use second::Outcome;
 
 // A number with its values.

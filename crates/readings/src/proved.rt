@@ -3,9 +3,10 @@ use crate::outcomes::contents_row;
 use crate::outcomes::narrow;
 use crate::outcomes::row;
 use crate::outcomes::row_given;
-use cases::operations::Numbers;
-use cases::operations::Operation;
+use ask_text::answer_file;
 use netfile::read_contents;
+use readings_cases::operations::Numbers;
+use readings_cases::operations::Operation;
 use second::Outcome;
 use strumelka::strumelka_check_net;
 use strumelka::strumelka_clash;
@@ -15,7 +16,6 @@ use strumelka::strumelka_kind_scan;
 use strumelka::strumelka_question;
 use strumelka::strumelka_reason;
 use strumelka::strumelka_reason_check;
-use text::answer_file;
 
 // The check of a net.
 pub fn on_words(n: Numbers, words: &[u32]) -> Outcome {

@@ -1,29 +1,29 @@
 // What a C or a Rust program links: each operation, its answer given as a row of the number table.
 ghost use mathlib.Core.Path.{_≡_};
-ghost use Rattle.words.specs.Table.{checkNet, checkedRow};
-ghost use Rattle.machine.specs.Scanning.{forwardScanned, kindScanned, scanRow};
-ghost use Rattle.answers.specs.Table.{questioned, askedRow};
-ghost use Rattle.clashes.specs.Table.{clashedBy, clashedRow};
+ghost use Rattle.net.specs.Table.{checkNet, checkedRow};
+ghost use Rattle.scan.specs.Scanning.{forwardScanned, kindScanned, scanRow};
+ghost use Rattle.question.specs.Table.{questioned, askedRow};
+ghost use Rattle.clash.specs.Table.{clashedBy, clashedRow};
 ghost use Rattle.completion.specs.Table.{completedBy, completedRow};
-ghost use Rattle.reasons.specs.Table.{reasoned, reasonedRow};
-ghost use Rattle.checks.specs.Table.{verdict, verdictRow};
-ghost use Rattle.rows.specs.Given.{given};
-use answers::ask_question;
-use checks::check_reason;
-use clashes::find_clash;
+ghost use Rattle.reason.specs.Table.{reasoned, reasonedRow};
+ghost use Rattle.reason_check.specs.Table.{verdict, verdictRow};
+ghost use Rattle.library_row.specs.Given.{given};
+use clash::find_clash;
 use completion::complete_net;
-use gives::asked_given;
-use gives::clashed_given;
-use gives::completed_given;
-use gives::reasoned_given;
-use gives::scanned_given;
-use gives::verdict_given;
-use machine::forward_scan;
-use machine::kind_scan;
-use reasons::find_reason;
-use rows::Given;
-use rows::checked_given;
-use words::check_net;
+use library_answer::asked_given;
+use library_answer::clashed_given;
+use library_answer::completed_given;
+use library_answer::reasoned_given;
+use library_answer::scanned_given;
+use library_answer::verdict_given;
+use library_row::Given;
+use library_row::checked_given;
+use net::check_net;
+use question::ask_question;
+use reason::find_reason;
+use reason_check::check_reason;
+use scan::forward_scan;
+use scan::kind_scan;
 
 // The check of a net.
 #[no_mangle]

@@ -6,7 +6,7 @@ use mathlib.Core.List.{List}
 use native.Mathlib.Omega.{arith}
 use lib.ListN.{length, getD, drop, drop-of-length-le, length-replicate}
 use borrow.Author.Tests.{eq-eqb}
-use Rattle.laws.proofs.Booleans.{clash, not-so}
+use Rattle.theory_laws.proofs.Booleans.{clash, not-so}
 use Rattle.theory.specs.Nets.{LegalWords}
 use Rattle.theory.specs.Marks.{T, U, has, mark, blank, round, forward, kindly, forwardStart, kindStart}
 use Rattle.theory.specs.Scans.{same, rounds, Count, forwardScan, kindScan}

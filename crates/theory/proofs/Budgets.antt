@@ -5,7 +5,7 @@ use mathlib.Core.Bool.{Bool, true, false}
 use mathlib.Core.List.{List}
 use native.Mathlib.Omega.{arith}
 use native.Mathlib.Decide.{decLt}
-use Rattle.laws.proofs.Booleans.{clash}
+use Rattle.theory_laws.proofs.Booleans.{clash}
 use Rattle.theory.specs.Marks.{round}
 use Rattle.theory.specs.Scans.{after, same, Scan, rounds, Count, Scanned, ended, spent}
 use Rattle.theory.specs.declared.Command.{Command}

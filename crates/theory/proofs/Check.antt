@@ -17,7 +17,7 @@ use Rattle.theory.specs.Reasons.{written, never}
 use Rattle.theory.specs.Searches.{distances, reasonStates, reasonList}
 use Rattle.theory.specs.Checks.{Passes, allSteps, goesWith, passes}
 use Rattle.theory.proofs.Inside.{legal-links}
-use Rattle.laws.proofs.Deciding.{Decides, decides-equal, decides-below, decides-both, decides-same}
+use Rattle.theory_laws.proofs.Deciding.{Decides, decides-equal, decides-below, decides-both, decides-same}
 use Rattle.theory.proofs.Steps.{all-steps-exactly}
 use Rattle.theory.proofs.Repeats.{strict-shows}
 use Rattle.theory.proofs.Reason.{reason-shortest}

@@ -8,8 +8,8 @@ use borrow.Author.Tests.{eqb-true, eqb-false}
 use lib.Dec.{eqb}
 use lib.ListN.{length, getD, length-set}
 use lib.Seq.{getD-set-same, getD-set-other}
-use Rattle.laws.proofs.Booleans.{or-assoc, or-false}
-use Rattle.laws.proofs.Bits.{bit-or, bit-power}
+use Rattle.theory_laws.proofs.Booleans.{or-assoc, or-false}
+use Rattle.theory_laws.proofs.Bits.{bit-or, bit-power}
 use Rattle.theory.specs.Marks.{has, with, mark, far, fires, link, links, command}
 use Rattle.theory.specs.declared.Command.{Command}
 use Rattle.theory.proofs.Inside.{Inside, far-in, inside-first, inside-rest}

@@ -5,7 +5,7 @@ use mathlib.Core.List.{List, [], _∷_, _++_, append-nil, List·Memᴰ, List·Me
 use mathlib.Core.Logic.{_⊎_, inl, inr, _↔_, ⊎-elim}
 use native.Mathlib.Omega.{arith}
 use lib.ListN.{length, getD}
-use Rattle.laws.proofs.Booleans.{same-test}
+use Rattle.theory_laws.proofs.Booleans.{same-test}
 use Rattle.theory.specs.Words.{Sign, word, tailOf, signOf, signAt, wordLimit}
 use Rattle.theory.specs.Nets.{Kind, Links, LegalWords, Net}
 use Rattle.theory.specs.Support.{Supported, link}

@@ -12,7 +12,7 @@ use lib.Seq.{set-getD, drop-set-lt, getD-set-same, getD-set-other}
 use lib.Bits.{or-lt}
 use lib.Count.{ones, ones-le}
 use lib.Pow.{pow-lt}
-use Rattle.laws.proofs.Bits.{or-had, ones-new}
+use Rattle.theory_laws.proofs.Bits.{or-had, ones-new}
 use Rattle.theory.specs.Marks.{has, with, mark, far, fires, link, links, command, round}
 use Rattle.theory.specs.declared.Command.{Command}
 use Rattle.theory.proofs.Inside.{Ends, Inside, far-in, inside-first, inside-rest}

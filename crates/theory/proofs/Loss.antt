@@ -5,7 +5,7 @@ use mathlib.Core.Bool.{true}
 use mathlib.Core.List.{List, [], _∷_, List·Memᴰ·head, List·Memᴰ·tail, List·Memᴰ·cases-cons}
 use mathlib.Core.Logic.{⊎-elim}
 use native.Mathlib.Omega.{arith}
-use Rattle.laws.proofs.Booleans.{clash}
+use Rattle.theory_laws.proofs.Booleans.{clash}
 use Rattle.theory.specs.Words.{isnt}
 use Rattle.theory.specs.Nets.{Kind, Links, LegalWord, LegalWords, Net}
 use Rattle.theory.specs.Support.{Supported, link, r3, r4}

@@ -7,7 +7,7 @@ use native.Mathlib.Omega.{arith}
 use lib.Dec.{eqb}
 use lib.ListN.{length, getD}
 use borrow.Author.Tests.{eqb-true, eq-eqb}
-use Rattle.laws.proofs.Booleans.{clash, and-left, and-right, or-split, or-true}
+use Rattle.theory_laws.proofs.Booleans.{clash, and-left, and-right, or-split, or-true}
 use Rattle.theory.specs.Words.{Sign, number, parity, signAt}
 use Rattle.theory.specs.Nets.{Statements, Links}
 use Rattle.theory.specs.Marks.{At, has, near, far, fires, command, round}

@@ -6,8 +6,8 @@ use mathlib.Core.List.{List, [], _∷_, List·Memᴰ}
 use native.Mathlib.Omega.{arith}
 use lib.ListN.{length, getD}
 use lib.Seq.{ext-getD}
-use Rattle.laws.proofs.Booleans.{same-test}
-use Rattle.laws.proofs.Bits.{bits-same}
+use Rattle.theory_laws.proofs.Booleans.{same-test}
+use Rattle.theory_laws.proofs.Bits.{bits-same}
 use Rattle.theory.specs.Marks.{has, command, round}
 use Rattle.theory.specs.Scans.{same, rounds}
 use Rattle.theory.specs.declared.Command.{Command}

@@ -7,7 +7,7 @@ use native.Mathlib.Omega.{arith}
 use native.Mathlib.Numerals.{add-one}
 use borrow.Author.Tests.{eqb-true, eq-eqb}
 use lib.Dec.{eqb}
-use Rattle.laws.proofs.Booleans.{and-left, and-right, not-so, clash}
+use Rattle.theory_laws.proofs.Booleans.{and-left, and-right, not-so, clash}
 use Rattle.theory.specs.Marks.{round}
 use Rattle.theory.specs.Scans.{same, rounds}
 use Rattle.theory.specs.declared.Command.{Command}

@@ -5,7 +5,7 @@ use mathlib.Core.Bool.{true, false}
 use mathlib.Core.List.{List}
 use mathlib.Core.Logic.{_↔_}
 use lib.ListN.{getD}
-use Rattle.laws.proofs.Booleans.{same-test}
+use Rattle.theory_laws.proofs.Booleans.{same-test}
 use Rattle.theory.specs.Words.{Sign, is, isnt}
 use Rattle.theory.specs.Nets.{Kind, Links, LegalWords}
 use Rattle.theory.specs.Support.{Supported}

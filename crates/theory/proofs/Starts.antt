@@ -8,7 +8,7 @@ use native.Mathlib.Nat.{zero-div}
 use lib.Dec.{eqb}
 use lib.ListN.{length, getD, length-replicate}
 use borrow.Author.Tests.{eqb-true, eq-eqb}
-use Rattle.laws.proofs.Booleans.{clash, and-left, and-right, or-split, or-true}
+use Rattle.theory_laws.proofs.Booleans.{clash, and-left, and-right, or-split, or-true}
 use Rattle.theory.specs.Marks.{T, U, has, mark, blank, forward, kindly, forwardStart, kindStart, At}
 use Rattle.theory.proofs.Growth.{Puts}
 use Rattle.theory.proofs.Commands.{mark-at, mark-length}

@@ -1,5 +1,5 @@
 -- `main`: what is written is the front of the text.
-use Rattle.text.proofs.Whole.{printed}
+use Rattle.ask_text.proofs.Whole.{printed}
 use borrow.Author.Needs.{needs}
 use Rattle.ask.proofs.main.Statement.{statement}
 use Rattle.ask.proofs.main.Tie as tie

@@ -1,7 +1,7 @@
 -- The check's refusal is passed on, and its net is completed.
 use mathlib.Core.Path.{sym, _∙_}
 use borrow.Author.Needs.{needs}
-use Rattle.answers.proofs.Outcomes.{checked-net}
+use Rattle.question.proofs.Outcomes.{checked-net}
 use Rattle.completion.proofs.Outcomes.{complete-refused, complete-checked}
 use Rattle.completion.proofs.complete_net.Statement.{statement}
 use Rattle.completion.proofs.complete_net.Tie as tie

@@ -1,9 +1,9 @@
 -- The answer of the check of a net as a row.
 use mathlib.Core.Path.{sym}
 use borrow.Author.Needs.{needs}
-use Rattle.words.specs.Table.{checkedRow}
-use Rattle.rows.proofs.Carrying.{carry-given, carry-fits}
-use Rattle.rows.proofs.Fitting.{checked-fits}
+use Rattle.net.specs.Table.{checkedRow}
+use Rattle.library_row.proofs.Carrying.{carry-given, carry-fits}
+use Rattle.library_row.proofs.Fitting.{checked-fits}
 use Rattle.strumelka.proofs.strumelka_check_net.Statement.{statement}
 use Rattle.strumelka.proofs.strumelka_check_net.Tie as tie
 

@@ -2,8 +2,8 @@
 use mathlib.Core.Path.{sym, ap}
 use borrow.Author.Needs.{needs}
 use Rattle.completion.specs.Table.{Completion}
-use Rattle.rows.proofs.Carrying.{carry-given, carry-fits}
-use Rattle.gives.proofs.Operations.{completionGives, completion-fits}
+use Rattle.library_row.proofs.Carrying.{carry-given, carry-fits}
+use Rattle.library_answer.proofs.Operations.{completionGives, completion-fits}
 use Rattle.strumelka.proofs.strumelka_completion.Statement.{statement}
 use Rattle.strumelka.proofs.strumelka_completion.Tie as tie
 

@@ -1,9 +1,9 @@
 -- The answer of the question as a row, and the marks that it leaves.
 use mathlib.Core.Path.{sym, ap}
 use borrow.Author.Needs.{needs}
-use Rattle.answers.specs.Table.{Question}
-use Rattle.rows.proofs.Carrying.{carry-given, carry-fits}
-use Rattle.gives.proofs.Operations.{questionGives, question-fits}
+use Rattle.question.specs.Table.{Question}
+use Rattle.library_row.proofs.Carrying.{carry-given, carry-fits}
+use Rattle.library_answer.proofs.Operations.{questionGives, question-fits}
 use Rattle.strumelka.proofs.strumelka_question.Statement.{statement}
 use Rattle.strumelka.proofs.strumelka_question.Tie as tie
 

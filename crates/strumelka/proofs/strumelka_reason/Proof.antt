@@ -1,9 +1,9 @@
 -- The answer of the reason as a row, and the scratch and the list that it leaves.
 use mathlib.Core.Path.{sym, ap}
 use borrow.Author.Needs.{needs}
-use Rattle.reasons.specs.Table.{Reason}
-use Rattle.rows.proofs.Carrying.{carry-given, carry-fits}
-use Rattle.gives.proofs.Operations.{reasonGives, reason-fits}
+use Rattle.reason.specs.Table.{Reason}
+use Rattle.library_row.proofs.Carrying.{carry-given, carry-fits}
+use Rattle.library_answer.proofs.Operations.{reasonGives, reason-fits}
 use Rattle.strumelka.proofs.strumelka_reason.Statement.{statement}
 use Rattle.strumelka.proofs.strumelka_reason.Tie as tie
 

@@ -1,9 +1,9 @@
 -- The answer of the check of a reason as a row.
 use mathlib.Core.Path.{sym}
 use borrow.Author.Needs.{needs}
-use Rattle.checks.specs.Table.{verdictRow}
-use Rattle.rows.proofs.Carrying.{carry-given, carry-fits}
-use Rattle.gives.proofs.Operations.{verdict-fits}
+use Rattle.reason_check.specs.Table.{verdictRow}
+use Rattle.library_row.proofs.Carrying.{carry-given, carry-fits}
+use Rattle.library_answer.proofs.Operations.{verdict-fits}
 use Rattle.strumelka.proofs.strumelka_reason_check.Statement.{statement}
 use Rattle.strumelka.proofs.strumelka_reason_check.Tie as tie
 

@@ -1,0 +1,39 @@
+-- What a question answers depends on the lent marks by their number alone, so that one list of marks serves all questions.
+use Prim.Native.Nat.{ℕ, _*_}
+use mathlib.Core.Path.{_≡_, refl, sym, ap, _∙_}
+use mathlib.Core.Bool.{Bool, true, false, cond}
+use mathlib.Core.List.{List}
+use lib.Dec.{ltb}
+use lib.ListN.{length, drop, length-replicate}
+use Rattle.theory.specs.Marks.{blank}
+use Rattle.theory.specs.Scans.{Scan, forwardScan}
+use Rattle.net.specs.Table.{checkNet, badPair}
+use Rattle.net.specs.declared.Refusal.the-variants.{BadQuestion, ShortBuffer}
+use Rattle.net.specs.declared.Checked.{Checked}
+use Rattle.net.specs.declared.Checked.the-variants as checked
+use Rattle.question.specs.Table.{Question, question, readAt, questionNet, questionChecked, questioned}
+use Rattle.question.specs.declared.Asked.{Asked}
+use Rattle.question.specs.declared.Asked.the-variants as asked
+
+module _ (o : ℕ) (ws : List ℕ) (x y : ℕ) (m m′ : List ℕ) (e : length m ≡ length m′) where
+  chosen : (n : ℕ) (s : Scan) (bad short : Bool)
+      → cond bad (question (asked.Refused BadQuestion) m) (cond short (question (asked.Refused ShortBuffer) m) (readAt y s (drop n m))) .answer
+      ≡ cond bad (question (asked.Refused BadQuestion) m′) (cond short (question (asked.Refused ShortBuffer) m′) (readAt y s (drop n m′))) .answer
+  chosen n s true short = refl
+  chosen n s false true = refl
+  chosen n s false false = refl
+
+  same-for : (c : Checked) → questionChecked o ws x y m c .answer ≡ questionChecked o ws x y m′ c .answer
+  unfolding questionChecked questionNet
+  same-for (checked.Nodes n) = rw e (chosen n (forwardScan n ws x (2 * n)) (badPair o n x y) (ltb (length m′) n))
+  same-for (checked.Refused r) = refl
+
+-- As many marks, the same answer.
+pub same-answer : (o k : ℕ) (ws : List ℕ) (x y : ℕ) (m m′ : List ℕ) → length m ≡ length m′ → questioned o k ws x y m .answer ≡ questioned o k ws x y m′ .answer
+same-answer o k ws x y m m′ e = same-for o ws x y m m′ e (checkNet o k ws)
+
+-- So 1,024 marks answer as blank ones do.
+pub asked-blank : (o k : ℕ) (ws : List ℕ) (x y : ℕ) (m : List ℕ) {r : Asked} {left : List ℕ} → length m ≡ 1024
+    → question r left ≡ questioned o k ws x y m → r ≡ questioned o k ws x y (blank 1024) .answer
+asked-blank o k ws x y m e f =
+    ap (λ (q : Question). q .answer) f ∙ same-answer o k ws x y m (blank 1024) (e ∙ sym (length-replicate {A = ℕ} 1024 0))

@@ -1,0 +1,85 @@
+-- Readings of the text by computation: net M, and files and nets that are refused.
+use Prim.Native.Nat.{ℕ, _+_, _/_, _%_}
+use mathlib.Core.Path.{_≡_, refl}
+use mathlib.Core.List.{List, [], _∷_, _++_}
+use lib.ListN.{replicate}
+use Rattle.theory.specs.Marks.{mark, link, links, command, round}
+use Rattle.theory.specs.Scans.{same, rounds}
+use Rattle.net.specs.Legal.{legalPrefix}
+use Rattle.net.specs.Table.{checkNet}
+use Rattle.question.specs.Table.{questionNet, questionChecked}
+use Rattle.netfile_entry.specs.Entries.{entryAt}
+use Rattle.netfile.specs.Contents.{contentsOf}
+use Rattle.netfile_numbers.specs.Bytes.{u32s}
+use Rattle.text_field.specs.Decimal.{digits}
+use Rattle.ask_line.specs.Line.{lineOf}
+use Rattle.ask_net.specs.Replies.{linesOf, netText}
+use Rattle.ask_text.specs.Text.{fileText, textOf}
+
+-- The bytes of a number of four, and of a question.
+abbrev four : ℕ → List ℕ
+four n = n % 256 ∷ n / 256 % 256 ∷ n / 65536 % 256 ∷ n / 16777216 ∷ []
+
+abbrev asks : ℕ → ℕ → List ℕ
+asks x y = x % 256 ∷ x / 256 ∷ y % 256 ∷ y / 256 ∷ []
+
+-- The contents of a file with so many bytes of words and of questions.
+abbrev contents : ℕ → ℕ → ℕ → List ℕ
+contents words start questions = four 24 ++ four 8 ++ four 32 ++ four words ++ four start ++ four questions
+
+-- The file of net M with its five questions.
+abbrev pub M-file : List ℕ
+M-file =
+    contents 20 52 20 ++ four 2 ++ four 4 ++ four 4 ++ four 2058 ++ four 4103 ++ four 8198 ++ four 10248
+    ++ asks 0 4 ++ asks 1 4 ++ asks 2 5 ++ asks 3 4 ++ asks 3 0
+
+-- Its five lines.
+abbrev pub M-text : List ℕ
+M-text =
+    (48 ∷ 32 ∷ 52 ∷ 32 ∷ 110 ∷ 111 ∷ 32 ∷ 53 ∷ 10 ∷ [])
+    ++ (49 ∷ 32 ∷ 52 ∷ 32 ∷ 121 ∷ 101 ∷ 115 ∷ 32 ∷ 53 ∷ 10 ∷ [])
+    ++ (50 ∷ 32 ∷ 53 ∷ 32 ∷ 110 ∷ 111 ∷ 32 ∷ 53 ∷ 10 ∷ [])
+    ++ (51 ∷ 32 ∷ 52 ∷ 32 ∷ 110 ∷ 111 ∷ 110 ∷ 101 ∷ 32 ∷ 51 ∷ 10 ∷ [])
+    ++ (51 ∷ 32 ∷ 48 ∷ 32 ∷ 114 ∷ 101 ∷ 102 ∷ 117 ∷ 115 ∷ 101 ∷ 100 ∷ 32 ∷ 52 ∷ 10 ∷ [])
+
+pub M-reads : textOf M-file ≡ M-text
+unfolding fileText contentsOf entryAt u32s netText checkNet legalPrefix linesOf lineOf digits questionChecked questionNet rounds round command links link mark same
+M-reads = refl
+
+-- A file that is refused: `file 9` and the place.
+abbrev pub refusedFile : ℕ → List ℕ
+refusedFile place = 102 ∷ 105 ∷ 108 ∷ 101 ∷ 32 ∷ 57 ∷ 32 ∷ (48 + place) ∷ 10 ∷ []
+
+pub no-bytes : textOf [] ≡ refusedFile 3
+unfolding fileText contentsOf digits
+no-bytes = refl
+
+pub bytes-23 : textOf (replicate 23 0) ≡ refusedFile 3
+unfolding fileText contentsOf digits
+bytes-23 = refl
+
+pub bytes-24 : textOf (replicate 24 0) ≡ refusedFile 0
+unfolding fileText contentsOf entryAt digits
+bytes-24 = refl
+
+-- A length of 2 ^ 32 - 28 whose end would be 4 in four bytes.
+pub end-past-four-bytes : textOf (contents 4294967268 4 28 ++ four 1 ++ four 1) ≡ refusedFile 1
+unfolding fileText contentsOf entryAt digits
+end-past-four-bytes = refl
+
+-- A file without questions whose net is refused: `net`, the number and the index.
+abbrev pub refusedNet : ℕ → ℕ → List ℕ
+refusedNet number index = 110 ∷ 101 ∷ 116 ∷ 32 ∷ (48 + number) ∷ 32 ∷ (48 + index) ∷ 10 ∷ []
+
+pub too-many-nodes : textOf (contents 0 32 0 ++ four 4294967295 ++ four 1) ≡ refusedNet 1 0
+unfolding fileText contentsOf entryAt u32s netText checkNet digits
+too-many-nodes = refl
+
+pub illegal-word : textOf (contents 8 40 0 ++ four 1 ++ four 1 ++ four 2 ++ four 0) ≡ refusedNet 3 1
+unfolding fileText contentsOf entryAt u32s netText checkNet legalPrefix digits
+illegal-word = refl
+
+-- A legal net without questions prints nothing.
+pub no-questions : textOf (contents 4 36 0 ++ four 1 ++ four 1 ++ four 2) ≡ []
+unfolding fileText contentsOf entryAt u32s netText checkNet legalPrefix linesOf
+no-questions = refl

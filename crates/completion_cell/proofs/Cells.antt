@@ -1,0 +1,73 @@
+-- The words about one node and one kind, by the byte, in the terms of the code.
+use Prim.Native.Nat.{ℕ, zero, suc, _+_, _*_, _/_, _%_, _≤_}
+use mathlib.Core.Path.{_≡_, refl, sym, ap, _∙_}
+use mathlib.Core.Bool.{Bool, true, false, cond}
+use mathlib.Core.List.{List, [], _∷_, _++_}
+use native.Mathlib.Omega.{arith}
+use lib.ListN.{length, set}
+use Rattle.theory_laws.specs.Over.{over}
+use Rattle.theory.specs.Words.{is, isnt, word}
+use Rattle.theory.specs.Marks.{T, F, has}
+use Rattle.theory.specs.Completion.{cell}
+use Rattle.theory.proofs.Bytes.{has-T, no-T, has-F, no-F}
+
+-- One value, or two, written over the front of a list.
+put-one : (l : List ℕ) (v : ℕ) → 1 ≤ length l → set l 0 v ≡ over (v ∷ []) l
+put-one [] v h = absurd (omega arith)
+put-one (a ∷ l) v h = refl
+
+put-two : (l : List ℕ) (v w : ℕ) → 2 ≤ length l → set (set l 0 v) 1 w ≡ over (v ∷ w ∷ []) l
+put-two [] v w h = absurd (omega arith)
+put-two (a ∷ []) v w h = absurd (omega arith)
+put-two (a ∷ b ∷ l) v w h = refl
+
+both-length : (p q : Bool) (v w : ℕ) → length (cond p (v ∷ []) [] ++ cond q (w ∷ []) []) ≡ cond p 1 0 + cond q 1 0
+both-length true true v w = refl
+both-length true false v w = refl
+both-length false true v w = refl
+both-length false false v w = refl
+
+-- How a marker counts.
+count-T : (b : ℕ) → cond (has T b) 1 0 ≡ b % 2
+count-T b = at (b % 2) refl
+  where
+    at : (q : ℕ) → b % 2 ≡ q → cond (has T b) 1 0 ≡ b % 2
+    at zero e = rw (no-T b (λ (i : b % 2 ≡ 1). omega arith)) (omega arith)
+    at (suc q) e = rw (has-T b (omega arith)) (omega arith)
+
+count-F : (b : ℕ) → cond (has F b) 1 0 ≡ b / 2 % 2
+count-F b = at (b / 2 % 2) refl
+  where
+    at : (q : ℕ) → b / 2 % 2 ≡ q → cond (has F b) 1 0 ≡ b / 2 % 2
+    at zero e = rw (no-F b (λ (i : b / 2 % 2 ≡ 1). omega arith)) (omega arith)
+    at (suc q) e = rw (has-F b (omega arith)) (omega arith)
+
+module _ (x y b : ℕ) where
+  -- How many words they are.
+  pub cell-length : length (cell x y b) ≡ b % 2 + b / 2 % 2
+  cell-length = both-length (has T b) (has F b) (word x y is) (word x y isnt) ∙ ap (λ (i : ℕ). i + cond (has F b) 1 0) (count-T b) ∙ ap (λ (i : ℕ). b % 2 + i) (count-F b)
+
+  -- They are these, by the two markers.
+  cell-as : (p q : Bool) → has T b ≡ p → has F b ≡ q → cell x y b ≡ cond p ((x * 2048 + y * 2) ∷ []) [] ++ cond q ((x * 2048 + y * 2 + 1) ∷ []) []
+  cell-as p q t f =
+      let first : word x y is ≡ x * 2048 + y * 2 = omega arith in
+      ap (λ (r : Bool). cond r (word x y is ∷ []) [] ++ cond (has F b) (word x y isnt ∷ []) []) t
+      ∙ ap (λ (r : Bool). cond p (word x y is ∷ []) [] ++ cond r (word x y isnt ∷ []) []) f
+      ∙ ap (λ (i : ℕ). cond p (i ∷ []) [] ++ cond q (word x y isnt ∷ []) []) first
+
+  -- What the code leaves of the list l.
+  module _ (l : List ℕ) (h : length (cell x y b) ≤ length l) where
+    leaves : (p q : Bool) (l′ : List ℕ) → has T b ≡ p → has F b ≡ q → l′ ≡ over (cond p ((x * 2048 + y * 2) ∷ []) [] ++ cond q ((x * 2048 + y * 2 + 1) ∷ []) []) l → l′ ≡ over (cell x y b) l
+    leaves p q l′ t f e = e ∙ ap (λ (r : List ℕ). over r l) (sym (cell-as p q t f))
+
+    pub write-both : b % 2 ≡ 1 → b / 2 % 2 ≡ 1 → (2 ≡ length (cell x y b)) × (set (set l 0 (x * 2048 + y * 2)) 1 (x * 2048 + y * 2 + 1) ≡ over (cell x y b) l)
+    write-both t f = (omega (arith, cell-length), leaves true true _ (has-T b t) (has-F b f) (put-two l (x * 2048 + y * 2) (x * 2048 + y * 2 + 1) (omega (arith, cell-length))))
+
+    pub write-yes : b % 2 ≡ 1 → (b / 2 % 2 ≡ 1 → ⊥) → (1 ≡ length (cell x y b)) × (set l 0 (x * 2048 + y * 2) ≡ over (cell x y b) l)
+    write-yes t f = (omega (arith, cell-length), leaves true false _ (has-T b t) (no-F b f) (put-one l (x * 2048 + y * 2) (omega (arith, cell-length))))
+
+    pub write-no : (b % 2 ≡ 1 → ⊥) → b / 2 % 2 ≡ 1 → (1 ≡ length (cell x y b)) × (set l 0 (x * 2048 + y * 2 + 1) ≡ over (cell x y b) l)
+    write-no t f = (omega (arith, cell-length), leaves false true _ (no-T b t) (has-F b f) (put-one l (x * 2048 + y * 2 + 1) (omega (arith, cell-length))))
+
+    pub write-none : (b % 2 ≡ 1 → ⊥) → (b / 2 % 2 ≡ 1 → ⊥) → (0 ≡ length (cell x y b)) × (l ≡ over (cell x y b) l)
+    write-none t f = (ap length (sym (cell-as false false (no-T b t) (no-F b f))), leaves false false l (no-T b t) (no-F b f) refl)

@@ -1,0 +1,45 @@
+-- A question has row 0 with its answer's number and its count, and a refusal its own row.
+use Prim.Native.Nat.{ℕ}
+use mathlib.Core.Path.{ap, _∙_}
+use borrow.Author.Needs.{needs}
+use Rattle.net.specs.Table.{row}
+use Rattle.question.specs.Table.{askedRow}
+use Rattle.library_row.proofs.Carrying.{carry-given, carry-fits}
+use Rattle.library_answer.proofs.asked_given.Statement.{statement}
+use Rattle.library_answer.proofs.asked_given.Tie as tie
+
+enum-known-asked : tie.Need-enum-known-asked
+enum-known-asked c = search needs
+
+answer-number-requires : tie.Need-answer-number-requires
+answer-number-requires c κs = search needs
+
+row-of-requires : tie.Need-row-of-requires
+row-of-requires c κs = search needs
+
+enum-known-asked-2 : tie.Need-enum-known-asked-2
+enum-known-asked-2 c = search needs
+
+refusal-given-requires : tie.Need-refusal-given-requires
+refusal-given-requires c κs = carry-fits askedRow (c .before .asked2 .given .1) (c .before .before .before .pre)
+
+returns : tie.Need-returns
+returns c =
+    let asked = c .before .before .before in
+    carry-given askedRow (asked .asked .given .1)
+    (c .row-of .ensures ∙ ap (λ (answer : ℕ). row 0 answer (asked .asked .given .0 .1 .0)) (c .before .answer-number .ensures))
+
+returns-2 : tie.Need-returns-2
+returns-2 c = carry-given askedRow (c .before .before .asked2 .given .1) (c .refusal-given .ensures)
+
+pub asked-given-spec : {M : Type 1} → statement M
+asked-given-spec =
+    tie.close
+    (tie.spec
+    enum-known-asked
+    answer-number-requires
+    row-of-requires
+    enum-known-asked-2
+    refusal-given-requires
+    returns
+    returns-2)

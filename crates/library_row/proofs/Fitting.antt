@@ -1,0 +1,48 @@
+-- Rows whose values fit into 32 bits, from the check of a net on.
+use Prim.Native.Nat.{ℕ, _<_}
+use mathlib.Core.Path.{_≡_, refl, sym, subst}
+use mathlib.Core.Bool.{Bool, true, false, cond}
+use mathlib.Core.List.{List}
+use native.Mathlib.Omega.{arith}
+use Rattle.net.specs.Table.{Row, row, checkNet, checkedRow, refusalRow}
+use Rattle.net.specs.declared.Refusal.{Refusal}
+use Rattle.net.specs.declared.Refusal.the-variants.{TooManyNodes, TooManyWords, IllegalWord, BadQuestion, ShortBuffer}
+use Rattle.net.specs.declared.Checked.{Checked}
+use Rattle.net.specs.declared.Checked.the-variants.{Nodes, Refused}
+use Rattle.net.proofs.NetCheck.{check-is-net, illegal-word-exactly}
+use Rattle.library_row.specs.Given.{Fits}
+
+-- A row that fits on both sides of a test fits after it.
+pub either : {A : Type 0} (f : A → Row) (t : Bool) {u v : A} → (t ≡ true → Fits (f u)) → (t ≡ false → Fits (f v)) → Fits (f (cond t u v))
+either f true h i = h refl
+either f false h i = i refl
+
+-- A row whose values are below 2^32.
+pub fits : {n a b : ℕ} → a < 4294967296 → b < 4294967296 → Fits (row n a b)
+fits h i = record { first = h; second = i }
+
+-- A row without values.
+pub bare : {n : ℕ} → Fits (row n 0 0)
+bare = fits (omega arith) (omega arith)
+
+module _ (o k : ℕ) (ws : List ℕ) where
+  answer-fits : (net : Checked) → checkNet o k ws ≡ net → Fits (checkedRow net)
+  answer-fits (Nodes n) e = let t = check-is-net o k ws n e in fits (omega (arith, t .0, t .1 .few)) (omega arith)
+  answer-fits (Refused TooManyNodes) e = bare
+  answer-fits (Refused TooManyWords) e = bare
+  answer-fits (Refused (IllegalWord i)) e = let t = illegal-word-exactly o k ws i .0 e in fits (omega (arith, t .1, t .2 .below)) (omega arith)
+  answer-fits (Refused BadQuestion) e = bare
+  answer-fits (Refused ShortBuffer) e = bare
+
+  -- The check of a net: it has at most 1,024 nodes, and an illegal word stands below the limit of words.
+  pub checked-fits : Fits (checkedRow (checkNet o k ws))
+  checked-fits = answer-fits (checkNet o k ws) refl
+
+  -- An operation that passes refusals on has a row that fits, if it has one for every net.
+  module _ (f : Checked → Row) (passed : (r : Refusal) → f (Refused r) ≡ refusalRow r) (nets : (n : ℕ) → checkNet o k ws ≡ Nodes n → Fits (f (Nodes n))) where
+    row-fits : (net : Checked) → checkNet o k ws ≡ net → Fits (f net)
+    row-fits (Nodes n) e = nets n e
+    row-fits (Refused r) e = subst Fits (sym (passed r)) (answer-fits (Refused r) e)
+
+    pub operation-fits : Fits (f (checkNet o k ws))
+    operation-fits = row-fits (checkNet o k ws) refl

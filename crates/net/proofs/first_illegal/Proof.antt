@@ -1,0 +1,69 @@
+-- The loop has come to word i: the legal words before the first illegal one are i and those of the rest.
+use Prim.Native.Nat.{_+_, _-_, _≤_}
+use mathlib.Core.Path.{_≡_, sym, _∙_}
+use borrow.Author.Needs.{needs}
+use borrow.Author.Tests.{not-true, not-false}
+use native.Mathlib.Omega.{arith}
+use lib.ListN.{length, drop}
+use Rattle.net.specs.Legal.{legalPrefix}
+use Rattle.net.proofs.Legality.{prefix-go, prefix-stop, prefix-end}
+use Rattle.net.proofs.first_illegal.Statement.{statement}
+use Rattle.net.proofs.first_illegal.Tie as tie
+
+abbrev Inv-loop : tie.InvT-loop
+Inv-loop o n words i₀ i = (i ≤ length words) × (legalPrefix o n words ≡ i + legalPrefix o n (drop i words))
+
+abbrev μ-loop : tie.MeasureT-loop
+μ-loop o n words i₀ i = length words - i
+
+loop-holds : tie.Need-loop-holds Inv-loop μ-loop
+loop-holds c = search needs
+
+mul-is-legal : tie.Need-mul-is-legal Inv-loop μ-loop
+mul-is-legal c = search needs
+
+shared-slice-read-is-legal : tie.Need-shared-slice-read-is-legal Inv-loop μ-loop
+shared-slice-read-is-legal c = search needs
+
+is-legal-requires : tie.Need-is-legal-requires Inv-loop μ-loop
+is-legal-requires c κs = search needs
+
+returns : tie.Need-returns Inv-loop μ-loop
+returns c =
+    let at = c .before .before .before .before in
+    let a = at .before .before .args in
+    omega (arith, prefix-stop (a .o) (a .n) (a .words .now) (at .loop .i) (omega arith) (sym (c .before .is-legal .ensures) ∙ not-true _ (c .if1 .taken)))
+
+add-i : tie.Need-add-i Inv-loop μ-loop
+add-i c = search needs
+
+loop-less : tie.Need-loop-less Inv-loop μ-loop
+loop-less c = search needs
+
+loop-again : tie.Need-loop-again Inv-loop μ-loop
+loop-again c =
+    let at = c .before .before .before .before in
+    let a = at .before .before .args in
+    omega (arith, prefix-go (a .o) (a .n) (a .words .now) (at .loop .i) (omega arith) (sym (c .before .is-legal .ensures) ∙ not-false _ (c .if1 .left)))
+
+returns-2 : tie.Need-returns-2 Inv-loop μ-loop
+returns-2 c =
+    let at = c .before in
+    let a = at .before .before .args in
+    omega (arith, prefix-end (a .o) (a .n) (a .words .now) (at .loop .i) (omega arith))
+
+pub first-illegal-spec : {M : Type 1} → statement M
+first-illegal-spec =
+    tie.close
+    (tie.spec
+    Inv-loop
+    μ-loop
+    loop-holds
+    mul-is-legal
+    shared-slice-read-is-legal
+    is-legal-requires
+    returns
+    add-i
+    loop-less
+    loop-again
+    returns-2)

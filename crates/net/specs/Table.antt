@@ -1,0 +1,50 @@
+-- Rows 1 to 3 as the check of a net, the tests of row 4 for a statement, and what a row of the number table is: of each refusal, and of that check.
+use Prim.Native.Nat.{ℕ, _+_}
+use mathlib.Core.Bool.{Bool, cond, _||_}
+use mathlib.Core.List.{List}
+use lib.Dec.{ltb, leb}
+use lib.ListN.{length}
+use Rattle.theory.specs.Words.{nodeLimit, wordLimit}
+use Rattle.net.specs.Legal.{legalPrefix}
+use Rattle.net.specs.declared.Refusal.{Refusal}
+use Rattle.net.specs.declared.Refusal.the-variants.{TooManyNodes, TooManyWords, IllegalWord, BadQuestion, ShortBuffer}
+use Rattle.net.specs.declared.Checked.{Checked}
+use Rattle.net.specs.declared.Checked.the-variants.{Nodes, Refused}
+
+-- Rows 1, 2 and 3 in their order, or the number of nodes. The sum is one of whole numbers.
+unfoldable pub checkNet : ℕ → ℕ → List ℕ → Checked
+checkNet o k ws =
+    cond (ltb nodeLimit (o + k)) (Refused TooManyNodes)
+    (cond (ltb wordLimit (length ws)) (Refused TooManyWords)
+    (cond (ltb (legalPrefix o (o + k) ws) (length ws)) (Refused (IllegalWord (legalPrefix o (o + k) ws)))
+    (Nodes (o + k))))
+
+-- Row 4 for a statement about x and y in a net of n nodes: x is no node, or y is no kind.
+abbrev pub badPair : ℕ → ℕ → ℕ → ℕ → Bool
+badPair o n x y = leb n x || (ltb y o || leb n y)
+
+-- Row 4 where a sign is asked besides.
+abbrev pub badStatement : ℕ → ℕ → ℕ → ℕ → ℕ → Bool
+badStatement o n x y sign = badPair o n x y || ltb 1 sign
+
+-- An answer as a row of the number table: its number and up to two values, 0 where neither the paper nor this project names one.
+pub record Row : Type 0 where
+  pub number : ℕ
+  pub first : ℕ
+  pub second : ℕ
+
+abbrev pub row : ℕ → ℕ → ℕ → Row
+row n a b = record { number = n; first = a; second = b }
+
+-- The row of each refusal.
+abbrev pub refusalRow : Refusal → Row
+refusalRow TooManyNodes = row 1 0 0
+refusalRow TooManyWords = row 2 0 0
+refusalRow (IllegalWord i) = row 3 i 0
+refusalRow BadQuestion = row 4 0 0
+refusalRow ShortBuffer = row 5 0 0
+
+-- The row of each answer of the check of a net: 0, to which this project adds the number of nodes, or the refusal's.
+abbrev pub checkedRow : Checked → Row
+checkedRow (Nodes n) = row 0 n 0
+checkedRow (Refused r) = refusalRow r

@@ -1,0 +1,112 @@
+// A link word's parts, the test of one word, and the check of a net: rows 1, 2 and 3 of the number table, in that order; the tests of row 4 for a statement; the refusals of rows 1 to 5.
+ghost use mathlib.Core.Path.{_≡_};
+ghost use Rattle.theory.specs.Words.{tailOf, headOf};
+ghost use Rattle.net.specs.Legal.{legal, legalPrefix};
+ghost use Rattle.net.specs.Table.{checkNet, badPair, badStatement};
+
+// The refusals that every operation passes on unchanged: rows 1 to 5.
+pub enum Refusal {
+    TooManyNodes,
+    TooManyWords,
+    IllegalWord(usize),
+    BadQuestion,
+    ShortBuffer,
+}
+
+// What the check of a net answers: the number of its nodes, or a refusal.
+pub enum Checked {
+    Nodes(usize),
+    Refused(Refusal),
+}
+
+// The largest number of nodes, and of words.
+pub const NODE_LIMIT: usize = 1024;
+
+pub const WORD_LIMIT: usize = 2097152;
+
+// A word's tail.
+pub fn tail_of(word: u32) -> usize
+    ensures { λ r. ⌜ r ≡ tailOf word ⌝ }
+{
+    (word / 2048) as usize
+}
+
+// A word's head.
+pub fn head_of(word: u32) -> usize
+    ensures { λ r. ⌜ r ≡ headOf word ⌝ }
+{
+    (word / 2 % 1024) as usize
+}
+
+// Whether a word is legal in a net of `n` nodes, the first `o` of them objects.
+fn is_legal(o: usize, n: usize, word: u32) -> bool
+    ensures { λ r. ⌜ r ≡ legal o n word ⌝ }
+{
+    let tail = tail_of(word);
+    let head = head_of(word);
+    if n <= tail {
+        return false;
+    }
+    if head < o {
+        return false;
+    }
+    head < n
+}
+
+// How many legal words stand before the first illegal one.
+pub fn first_illegal(o: usize, n: usize, words: &[u32]) -> usize
+    ensures { λ r. ⌜ r ≡ legalPrefix o n (now (words .entry)) ⌝ }
+{
+    let mut i = 0;
+    while i < words.len() {
+        if !is_legal(o, n, words[i]) {
+            return i;
+        }
+        i += 1;
+    }
+    i
+}
+
+// The check of a net that every operation begins with.
+pub fn check_net(o: u32, k: u32, words: &[u32]) -> Checked
+    ensures { λ r. ⌜ r ≡ checkNet o k (now (words .entry)) ⌝ }
+{
+    let objects = o as usize;
+    let n = objects + k as usize;
+    if NODE_LIMIT < n {
+        return Checked::Refused(Refusal::TooManyNodes);
+    }
+    if WORD_LIMIT < words.len() {
+        return Checked::Refused(Refusal::TooManyWords);
+    }
+    let i = first_illegal(objects, n, words);
+    if i < words.len() {
+        return Checked::Refused(Refusal::IllegalWord(i));
+    }
+    Checked::Nodes(n)
+}
+
+// Whether a statement about `x` and `y` is none over a net of `n` nodes: row 4.
+pub fn is_bad_pair(o: u32, n: usize, x: u32, y: u32) -> bool
+    ensures { λ r. ⌜ r ≡ badPair o n x y ⌝ }
+{
+    let subject = x as usize;
+    let kind = y as usize;
+    if n <= subject {
+        return true;
+    }
+    if y < o {
+        return true;
+    }
+    n <= kind
+}
+
+// The same where a sign is asked besides.
+pub fn is_bad_statement(o: u32, n: usize, x: u32, y: u32, sign: u32) -> bool
+    ensures { λ r. ⌜ r ≡ badStatement o n x y sign ⌝ }
+{
+    if is_bad_pair(o, n, x, y) {
+        return true;
+    }
+    1 < sign
+}

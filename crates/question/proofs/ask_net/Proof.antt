@@ -1,0 +1,66 @@
+-- Each return is one row of the table.
+use mathlib.Core.Path.{sym, _∙_}
+use native.Mathlib.Omega.{arith}
+use borrow.Author.Needs.{needs}
+use Rattle.question.proofs.Outcomes.{good-pair, ask-bad, ask-short, ask-done}
+use Rattle.question.proofs.ask_net.Statement.{statement}
+use Rattle.question.proofs.ask_net.Tie as tie
+
+is-bad-pair-requires : tie.Need-is-bad-pair-requires
+is-bad-pair-requires c κs = search needs
+
+returns : tie.Need-returns
+returns c =
+    let a = c .before .before .before .before .args in
+    ask-bad (a .o) (a .n) (a .words .now) (a .x) (a .y) (a .marks .now) (sym (c .before .is-bad-pair .ensures) ∙ c .if1 .taken)
+
+returns-2 : tie.Need-returns-2
+returns-2 c =
+    let tested = c .before in
+    let a = tested .before .before .before .before .args in
+    ask-short (a .o) (a .n) (a .words .now) (a .x) (a .y) (a .marks .now) (sym (tested .before .is-bad-pair .ensures) ∙ tested .if1 .left) (c .if2 .taken)
+
+full-scan-requires : tie.Need-full-scan-requires
+full-scan-requires c κs =
+    let tested = c .before .before in
+    let s = tested .before .before .before .before in
+    let a = s .args in
+    let good = good-pair (a .o) (a .n) (a .x) (a .y) (sym (tested .before .is-bad-pair .ensures) ∙ tested .if1 .left) in
+    (s .pre .0, (s .pre .1, (good .node, c .before .if2 .left)))
+
+slice-read-byte : tie.Need-slice-read-byte
+slice-read-byte c =
+    let scanned = c .before .before .before in
+    let tested = scanned .before .before .before in
+    let a = tested .before .before .before .before .args in
+    let good = good-pair (a .o) (a .n) (a .x) (a .y) (sym (tested .before .is-bad-pair .ensures) ∙ tested .if1 .left) in
+    omega (arith, good .high, scanned .before .before .if2 .left, scanned .full-scan .kept .1 .1 .1 .1 .1 .0)
+
+answer-at-requires : tie.Need-answer-at-requires
+answer-at-requires c κs = search needs
+
+same-length : tie.Need-same-length
+same-length c = search needs
+
+returns-3 : tie.Need-returns-3
+returns-3 c =
+    let scanned = c .before .before .before .before in
+    let tested = scanned .before .before .before in
+    let s = tested .before .before .before .before in
+    let a = s .args in
+    ask-done (a .o) (a .n) (a .words .now) (a .x) (a .y) (a .marks .now) (a .k) (s .pre .0) (s .pre .1) (sym (tested .before .is-bad-pair .ensures) ∙ tested .if1 .left)
+    (scanned .before .before .if2 .left) (scanned .full-scan .last .1 .1 .1 .1 .1 .0) (scanned .full-scan .result) (c .answer-at .result)
+    (scanned .full-scan .ensures .0) (scanned .full-scan .ensures .1) (c .answer-at .ensures)
+
+pub ask-net-spec : {M : Type 1} → statement M
+ask-net-spec =
+    tie.close
+    (tie.spec
+    is-bad-pair-requires
+    returns
+    returns-2
+    full-scan-requires
+    slice-read-byte
+    answer-at-requires
+    same-length
+    returns-3)

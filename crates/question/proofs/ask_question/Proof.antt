@@ -1,0 +1,52 @@
+-- The check's refusal is passed on, and its net is asked.
+use mathlib.Core.Path.{sym, _∙_}
+use borrow.Author.Needs.{needs}
+use Rattle.question.proofs.Outcomes.{checked-net, ask-refused, ask-checked}
+use Rattle.question.proofs.ask_question.Statement.{statement}
+use Rattle.question.proofs.ask_question.Tie as tie
+
+check-net-requires : tie.Need-check-net-requires
+check-net-requires c κs = search needs
+
+enum-known-net : tie.Need-enum-known-net
+enum-known-net c = search needs
+
+enum-known-net-2 : tie.Need-enum-known-net-2
+enum-known-net-2 c = search needs
+
+ask-net-requires : tie.Need-ask-net-requires
+ask-net-requires c κs =
+    let net = c .before .before in
+    let checked = net .before .before in
+    let a = checked .before .before .before .args in
+    checked-net (a .o) (a .k) (a .words .now) (net .net2 .given .0 .0) (sym (checked .check-net .ensures) ∙ net .net2 .given .1)
+
+returns : tie.Need-returns
+returns c =
+    let net = c .before in
+    let checked = net .before .before in
+    let a = checked .before .before .before .args in
+    ask-refused (a .o) (a .words .now) (a .x) (a .y) (a .marks .now) (sym (checked .check-net .ensures) ∙ net .net .given .1)
+
+same-length : tie.Need-same-length
+same-length c = search needs
+
+returns-2 : tie.Need-returns-2
+returns-2 c =
+    let asked = c .before .before in
+    let net = asked .before .before .before in
+    let checked = net .before .before in
+    let a = checked .before .before .before .args in
+    ask-checked (a .o) (a .words .now) (a .x) (a .y) (a .marks .now) (sym (checked .check-net .ensures) ∙ net .net2 .given .1) (asked .ask-net .ensures)
+
+pub ask-question-spec : {M : Type 1} → statement M
+ask-question-spec =
+    tie.close
+    (tie.spec
+    check-net-requires
+    enum-known-net
+    enum-known-net-2
+    ask-net-requires
+    returns
+    same-length
+    returns-2)

@@ -1,0 +1,91 @@
+// The question that a scope asks before a mean goes on the screen, and the scan that answers it.
+ghost use mathlib.Core.Path.{_≡_};
+ghost use mathlib.Core.List.{_++_};
+ghost use Prim.Native.Nat.{_+_, _*_, _<_, _≤_};
+ghost use lib.ListN.{length, drop};
+ghost use Rattle.theory.specs.Nets.{Net};
+ghost use Rattle.theory.specs.Scans.{forwardScan};
+ghost use Rattle.question.specs.Table.{answerAt, question, questionNet, questioned};
+use net::Checked;
+use net::Refusal;
+use net::check_net;
+use net::is_bad_pair;
+use scan::Scanned;
+use scan::scan_net;
+
+// The four answers.
+pub enum Answer {
+    None,
+    Yes,
+    No,
+    Both,
+}
+
+// What a question answers: the word with the count of rounds, or a refusal.
+pub enum Asked {
+    Done(Answer, u32),
+    Refused(Refusal),
+}
+
+// The forward scan from `x` with its full budget on a net that was checked; the count of its rounds.
+pub fn full_scan(o: u32, k: u32, n: usize, words: &[u32], x: u32, marks: &mut [u8]) -> u32
+    requires net { ⌜ Net o k (now words) ⌝ }
+    requires size { ⌜ n ≡ o + k ⌝ }
+    requires node { ⌜ x < n ⌝ }
+    requires room { ⌜ n ≤ length (now marks) ⌝ }
+    ensures count { λ r. ⌜ r ≡ forwardScan n (now (words .entry)) x (2 * n) .count ⌝ }
+    ensures left { λ r. ⌜ now (marks .exit) ≡ forwardScan n (now (words .entry)) x (2 * n) .marks ++ drop n (now (marks .entry)) ⌝ }
+{
+    let ran = scan_net(false, o, n, words, x, (2 * n) as u32, marks);
+    match ran {
+        Scanned::Done(count) => count,
+        Scanned::Spent(count) => count,
+        Scanned::Refused(_) => 0,
+    }
+}
+
+// What a byte at a kind answers.
+fn answer_at(byte: u8) -> Answer
+    ensures { λ r. ⌜ r ≡ answerAt byte ⌝ }
+{
+    if byte % 2 == 1 {
+        if byte / 2 % 2 == 1 {
+            Answer::Both
+        } else {
+            Answer::Yes
+        }
+    } else if byte / 2 % 2 == 1 {
+        Answer::No
+    } else {
+        Answer::None
+    }
+}
+
+// The question whether `x` is `y`.
+pub fn ask_question(o: u32, k: u32, words: &[u32], x: u32, y: u32, marks: &mut [u8]) -> Asked
+    ensures { λ r. ⌜ question r (now (marks .exit)) ≡ questioned o k (now (words .entry)) x y (now (marks .entry)) ⌝ }
+{
+    let net = check_net(o, k, words);
+    match net {
+        Checked::Refused(refusal) => Asked::Refused(refusal),
+        Checked::Nodes(n) => ask_net(o, k, n, words, x, y, marks),
+    }
+}
+
+// Rows 4, 5 and 0, on a net that was checked.
+fn ask_net(o: u32, k: u32, n: usize, words: &[u32], x: u32, y: u32, marks: &mut [u8]) -> Asked
+    requires net { ⌜ Net o k (now words) ⌝ }
+    requires size { ⌜ n ≡ o + k ⌝ }
+    ensures { λ r. ⌜ question r (now (marks .exit)) ≡ questionNet o n (now (words .entry)) x y (now (marks .entry)) ⌝ }
+{
+    if is_bad_pair(o, n, x, y) {
+        return Asked::Refused(Refusal::BadQuestion);
+    }
+    if marks.len() < n {
+        return Asked::Refused(Refusal::ShortBuffer);
+    }
+    let count = full_scan(o, k, n, words, x, marks);
+    let at = y as usize;
+    let byte = marks[at];
+    Asked::Done(answer_at(byte), count)
+}

@@ -1,0 +1,100 @@
+-- The table's rows for a net of n nodes, and the net's facts that the search and the walk ask for.
+use Prim.Native.Nat.{ℕ, _+_, _≤_, _<_}
+use mathlib.Core.Path.{_≡_, refl, sym, ap, _∙_}
+use mathlib.Core.Bool.{Bool, true, false, _||_}
+use mathlib.Core.List.{List, _++_}
+use native.Mathlib.Omega.{arith}
+use borrow.Author.Tests.{leb-false, lt-ltb, le-ltb}
+use lib.Dec.{ltb, leb}
+use lib.ListN.{length, take, drop}
+use lib.Seq.{take-at}
+use Rattle.theory_laws.proofs.Booleans.{or-none-left, or-none-right}
+use Rattle.theory.specs.Words.{Sign, signAt}
+use Rattle.theory.specs.Nets.{Net}
+use Rattle.theory.specs.Searches.{distances, reasonStates}
+use Rattle.theory.proofs.Distances.{distances-length}
+use Rattle.theory.proofs.Searching.{next-state}
+use Rattle.net.specs.Table.{checkNet, badPair, badStatement}
+use Rattle.net.specs.declared.Refusal.{Refusal}
+use Rattle.net.specs.declared.Refusal.the-variants.{BadQuestion, ShortBuffer}
+use Rattle.net.specs.declared.Checked.{Checked}
+use Rattle.net.specs.declared.Checked.the-variants as checked
+use Rattle.net.proofs.NetCheck.{check-is-net}
+use Rattle.reason_walk.specs.Walk.{Leads}
+use Rattle.reason.specs.Table.{Reason, reason, reasonNet, reasonChecked}
+use Rattle.reason.specs.Searched.{reasonFrom}
+use Rattle.reason.specs.declared.Reasoned.{Reasoned}
+use Rattle.reason.specs.declared.Reasoned.the-variants.{Refused}
+
+-- A net is one also where every node counts as a kind.
+all-kinds : (o k n : ℕ) (ws : List ℕ) → n ≡ o + k → Net o k ws → Net 0 n ws
+all-kinds o k n ws e net =
+    record {
+      few = omega (arith, net .few);
+      short = net .short;
+      legal = λ w m. let g = net .legal w m in record { tail = omega (arith, g .tail); head = record { low = omega arith; high = omega (arith, g .head .high) } };
+    }
+
+-- What passes the check is a net for the search.
+pub checked-net : (o k : ℕ) (ws : List ℕ) (n : ℕ) → checkNet o k ws ≡ checked.Nodes n → Net 0 n ws
+checked-net o k ws n e = let t = check-is-net o k ws n e in all-kinds o k n ws (t .0) (t .1)
+
+-- The distances lead from every state that has one.
+pub distances-lead : (n : ℕ) (s : Sign) (ws : List ℕ) (y : ℕ) → Net 0 n ws → y < n → Leads n s ws (distances n s ws y)
+distances-lead n s ws y net h =
+    let all : 0 + n ≡ n = omega arith in
+    rw all at (next-state 0 n ws net y (record { low = omega arith; high = omega arith }) s)
+
+-- The part of the scratch that was lent for the distances, lent once more.
+module _ (n : ℕ) (s : Sign) (ws : List ℕ) (y : ℕ) (d b : List ℕ) (found : b ≡ distances n s ws y) where
+  front : take (n + n) (b ++ drop (n + n) d) ≡ distances n s ws y
+  front = take-at b (drop (n + n) d) (n + n) (ap length found ∙ distances-length n s ws y) ∙ found
+
+  pub front-length : length (take (n + n) (b ++ drop (n + n) d)) ≡ n + n
+  front-length = ap length front ∙ distances-length n s ws y
+
+  pub front-leads : Net 0 n ws → y < n → Leads n s ws (take (n + n) (b ++ drop (n + n) d))
+  front-leads net h = rw front (distances-lead n s ws y net h)
+
+-- The code's test of the statement said `bad`.
+module _ (o n : ℕ) (ws : List ℕ) (x y sign : ℕ) (d l : List ℕ) {bad : Bool} (told : bad ≡ badStatement o n x y sign) where
+  -- Row 4.
+  pub net-bad : bad ≡ true → reason (Refused BadQuestion) d l ≡ reasonNet o n ws x y sign d l
+  unfolding reasonNet
+  net-bad h = rw (← told, h)
+
+  module _ (said : bad ≡ false) where
+    good : badStatement o n x y sign ≡ false
+    good = sym told ∙ said
+
+    -- A statement that is not bad is about two nodes.
+    pub good-nodes : (x < n) × (y < n)
+    good-nodes =
+        let pair = or-none-left (badPair o n x y) (ltb 1 sign) good in
+        let kinds = or-none-right (leb n x) (ltb y o || leb n y) pair in
+        (leb-false n x (or-none-left (leb n x) (ltb y o || leb n y) pair), leb-false n y (or-none-right (ltb y o) (leb n y) kinds))
+
+    -- Row 5.
+    pub net-short : length d < n + n → reason (Refused ShortBuffer) d l ≡ reasonNet o n ws x y sign d l
+    unfolding reasonNet
+    net-short h = rw (good, lt-ltb (length d) (n + n) h)
+
+    -- Rows 7, 8 and 0 over the distances.
+    pub net-searched : n + n ≤ length d → (b : List ℕ) → b ≡ distances n (signAt sign) ws y → (r : Reasoned) (m : List ℕ)
+        → ((past : List ℕ) → reason r past m ≡ reasonFrom n (signAt sign) ws x (take (n + n) (b ++ drop (n + n) d)) past l)
+        → reason r (b ++ drop (n + n) d) m ≡ reasonNet o n ws x y sign d l
+    unfolding reasonNet reasonStates
+    net-searched h b e r m f =
+        let g = rw (front n (signAt sign) ws y d b e) at f in
+        rw (good, le-ltb (length d) (n + n) h, e) (g (distances n (signAt sign) ws y ++ drop (n + n) d))
+
+-- Rows 1, 2 and 3.
+pub net-refused : (o : ℕ) (ws : List ℕ) (x y sign : ℕ) (d l : List ℕ) (q : Refusal) {r : Checked} → r ≡ checked.Refused q → reason (Refused q) d l ≡ reasonChecked o ws x y sign d l r
+unfolding reasonChecked
+net-refused o ws x y sign d l q e = rw e refl
+
+-- The rows of a net that passed the check.
+pub net-checked : (o : ℕ) (ws : List ℕ) (x y sign : ℕ) (d l : List ℕ) (n : ℕ) {r : Checked} {a : Reason} → r ≡ checked.Nodes n → a ≡ reasonNet o n ws x y sign d l
+    → a ≡ reasonChecked o ws x y sign d l r
+unfolding reasonChecked
+net-checked o ws x y sign d l n e h = rw e h

@@ -1,0 +1,119 @@
+// The distance of every state to the end of a statement: level by level, each one pass over the words.
+ghost use mathlib.Core.Path.{_≡_};
+ghost use mathlib.Core.List.{[], _∷_};
+ghost use Prim.Native.Nat.{_+_, _<_, _≤_};
+ghost use lib.ListN.{length, set, replicate};
+ghost use Rattle.theory.specs.Words.{signAt, tailOf, headOf, parity};
+ghost use Rattle.theory.specs.Nets.{Net};
+ghost use Rattle.theory.specs.Reasons.{goal, never};
+ghost use Rattle.theory.specs.Searches.{arc, arcsOf, arcs, level, distances};
+ghost use Rattle.theory.proofs.Inside.{Ends};
+ghost use Rattle.reason_search.specs.Search.{Kept};
+use net::head_of;
+use net::tail_of;
+
+// The place of a state that has no distance.
+pub const NEVER: u16 = 65535;
+
+// One move at level `i`: a state without a distance gets i + 1 where the move leads to a state at distance i. Whether it did.
+fn open_state(i: u16, from: usize, to: usize, places: &mut [u16]) -> bool
+    requires small { ⌜ i < never ⌝ }
+    requires inside { ⌜ (from < length (now places)) × (to < length (now places)) ⌝ }
+    ensures { λ r. ⌜ now (places .exit) ≡ level i (arc from to ∷ []) (now (places .entry)) ⌝ }
+    ensures { λ r. ⌜ Kept r (now (places .entry)) (now (places .exit)) ⌝ }
+{
+    if places[to] != i {
+        return false;
+    }
+    if places[from] != NEVER {
+        return false;
+    }
+    places[from] = i + 1;
+    true
+}
+
+// The moves of one word at level `i`; whether one of them gave a state its distance.
+fn open_word(i: u16, n: usize, sign: u32, word: u32, places: &mut [u16]) -> bool
+    requires small { ⌜ i < never ⌝ }
+    requires ends { ⌜ Ends n word ⌝ }
+    requires few { ⌜ n ≤ 1024 ⌝ }
+    requires room { ⌜ length (now places) ≡ n + n ⌝ }
+    ensures { λ r. ⌜ now (places .exit) ≡ level i (arcsOf n (signAt sign) (tailOf word) (headOf word) (parity word) []) (now (places .entry)) ⌝ }
+    ensures { λ r. ⌜ Kept r (now (places .entry)) (now (places .exit)) ⌝ }
+{
+    let tail = tail_of(word);
+    let head = head_of(word);
+    if sign == 0 {
+        if word % 2 == 0 {
+            return open_state(i, tail, head, places);
+        }
+        return false;
+    }
+    if word % 2 == 0 {
+        let along = open_state(i, tail, head, places);
+        let back = open_state(i, n + head, n + tail, places);
+        return along | back;
+    }
+    let over = open_state(i, tail, n + head, places);
+    let turned = open_state(i, head, n + tail, places);
+    over | turned
+}
+
+// Level `i` over all words; whether it gave a state its distance.
+fn run_level(i: u16, n: usize, sign: u32, words: &[u32], places: &mut [u16]) -> bool
+    requires small { ⌜ i < never ⌝ }
+    requires net { ⌜ Net 0 n (now words) ⌝ }
+    requires room { ⌜ length (now places) ≡ n + n ⌝ }
+    ensures { λ r. ⌜ now (places .exit) ≡ level i (arcs n (signAt sign) (now (words .entry))) (now (places .entry)) ⌝ }
+    ensures { λ r. ⌜ Kept r (now (places .entry)) (now (places .exit)) ⌝ }
+{
+    let mut opened = false;
+    let mut j = 0;
+    while j < words.len() {
+        opened = opened | open_word(i, n, sign, words[j], places);
+        j += 1;
+    }
+    opened
+}
+
+// No state has a distance but `end`, which is at distance 0.
+fn start_at(end: usize, places: &mut [u16])
+    requires { ⌜ end < length (now places) ⌝ }
+    ensures { λ _. ⌜ now (places .exit) ≡ set (replicate (length (now (places .entry))) never) end 0 ⌝ }
+{
+    let mut at = 0;
+    while at < places.len() {
+        places[at] = NEVER;
+        at += 1;
+    }
+    places[end] = 0;
+}
+
+// The state in which a path to `y` ends.
+fn goal_of(n: usize, sign: u32, y: usize) -> usize
+    requires { ⌜ (n ≤ 1024) × (y < n) ⌝ }
+    ensures { λ r. ⌜ r ≡ goal n (signAt sign) y ⌝ }
+{
+    if sign == 0 {
+        return y;
+    }
+    n + y
+}
+
+// The distances of the 2N states to the end of a path to `y`. A level that adds nothing is the last.
+pub fn find_distances(n: usize, sign: u32, words: &[u32], y: usize, places: &mut [u16])
+    requires net { ⌜ Net 0 n (now words) ⌝ }
+    requires node { ⌜ y < n ⌝ }
+    requires room { ⌜ length (now places) ≡ n + n ⌝ }
+    ensures { λ _. ⌜ now (places .exit) ≡ distances n (signAt sign) (now (words .entry)) y ⌝ }
+{
+    let end = goal_of(n, sign, y);
+    start_at(end, places);
+    let mut i = 0;
+    while i < places.len() {
+        if !run_level(i as u16, n, sign, words, places) {
+            return;
+        }
+        i += 1;
+    }
+}

@@ -1,0 +1,53 @@
+-- The check's refusal is passed on, and its net is scanned.
+use mathlib.Core.Path.{sym, _∙_}
+use borrow.Author.Needs.{needs}
+use Rattle.scan.proofs.Outcomes.{checked-inside, scan-refused, scan-checked}
+use Rattle.scan.proofs.scan_from.Statement.{statement}
+use Rattle.scan.proofs.scan_from.Tie as tie
+
+check-net-requires : tie.Need-check-net-requires
+check-net-requires c κs = search needs
+
+enum-known-net : tie.Need-enum-known-net
+enum-known-net c = search needs
+
+enum-known-net-2 : tie.Need-enum-known-net-2
+enum-known-net-2 c = search needs
+
+scan-net-requires : tie.Need-scan-net-requires
+scan-net-requires c κs =
+    let net = c .before .before in
+    let checked = net .before .before in
+    let a = checked .before .before .before .args in
+    checked-inside (a .o) (a .k) (a .words .now) (net .net2 .given .0 .0) (sym (checked .check-net .ensures) ∙ net .net2 .given .1)
+
+returns : tie.Need-returns
+returns c =
+    let net = c .before in
+    let checked = net .before .before in
+    let a = checked .before .before .before .args in
+    scan-refused (a .kind) (a .o) (a .words .now) (a .x) (a .budget) (a .marks .now) (sym (checked .check-net .ensures) ∙ net .net .given .1)
+
+same-length : tie.Need-same-length
+same-length c = search needs
+
+returns-2 : tie.Need-returns-2
+returns-2 c =
+    let ran = c .before .before in
+    let net = ran .before .before .before in
+    let checked = net .before .before in
+    let a = checked .before .before .before .args in
+    scan-checked (a .kind) (a .o) (a .words .now) (a .x) (a .budget) (a .marks .now) (sym (checked .check-net .ensures) ∙ net .net2 .given .1)
+    (ran .scan-net .ensures)
+
+pub scan-from-spec : {M : Type 1} → statement M
+scan-from-spec =
+    tie.close
+    (tie.spec
+    check-net-requires
+    enum-known-net
+    enum-known-net-2
+    scan-net-requires
+    returns
+    same-length
+    returns-2)

@@ -1,0 +1,28 @@
+-- All links tested against the copy are the command.
+use mathlib.Core.Path.{_∙_}
+use Rattle.theory.specs.Marks.{command}
+use Rattle.scan_command.proofs.Copies.{links-agree}
+use borrow.Author.Needs.{needs}
+use Rattle.scan_command.proofs.run_command.Statement.{statement}
+use Rattle.scan_command.proofs.run_command.Tie as tie
+
+copied-requires : tie.Need-copied-requires
+copied-requires c κs = search needs
+
+follow-all-requires : tie.Need-follow-all-requires
+follow-all-requires c κs = search needs
+
+same-length : tie.Need-same-length
+same-length c = search needs
+
+returns : tie.Need-returns
+unfolding command
+returns c =
+    let s = c .before .before .before .before .before .before .before .before .before in
+    let a = s .args in
+    let k = c .before .before .before .before .before .copied in
+    let f = c .before .before .follow-all in
+    (f .ensures .0 ∙ links-agree (a .c) (k .result) (a .marks .now) (a .n) (k .ensures) (a .words .now) (a .marks .now) (s .pre .1 .0), f .ensures .1)
+
+pub run-command-spec : {M : Type 1} → statement M
+run-command-spec = tie.close (tie.spec copied-requires follow-all-requires same-length returns)

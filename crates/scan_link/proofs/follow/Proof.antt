@@ -1,0 +1,103 @@
+-- Each return is one case of what a link does.
+use borrow.Author.Needs.{needs}
+use borrow.Author.Tests.{not-true, not-false}
+use mathlib.Core.Path.{sym}
+use native.Mathlib.Omega.{arith}
+use Rattle.theory.proofs.Growth.{kept}
+use Rattle.theory.proofs.Inside.{near-in, far-in}
+use Rattle.scan_link.proofs.Following.{follow-other, follow-off, follow-had, follow-new, follow-more}
+use Rattle.scan_link.proofs.follow.Statement.{statement}
+use Rattle.scan_link.proofs.follow.Tie as tie
+
+returns : tie.Need-returns
+returns c =
+    let a = c .before .before .args in
+    (sym (follow-other (a .c) (a .old .now) (a .word) (a .marks .now) (c .if1 .taken)), kept)
+
+near-of-requires : tie.Need-near-of-requires
+near-of-requires c κs = search needs
+
+element-copy-out-has-mark : tie.Need-element-copy-out-has-mark
+element-copy-out-has-mark c =
+    let s = c .before .before .before in
+    omega (arith, near-in (s .args .c .up) (s .pre .1 .0))
+
+has-mark-requires : tie.Need-has-mark-requires
+has-mark-requires c κs = search needs
+
+returns-2 : tie.Need-returns-2
+returns-2 c =
+    let at = c .before .before .before .before in
+    let a = at .before .before .args in
+    let h = c .before .has-mark in (
+      sym (follow-off (a .c) (a .old .now) (a .word) (a .marks .now) (at .if1 .left) (c .before .before .before .near-of .ensures) (h .ensures)
+          (not-true (h .result) (c .if2 .taken))),
+      kept,
+    )
+
+far-of-requires : tie.Need-far-of-requires
+far-of-requires c κs = search needs
+
+slice-read-byte : tie.Need-slice-read-byte
+slice-read-byte c =
+    let s = c .before .before .before .before .before .before .before .before in
+    omega (arith, far-in (s .args .c .up) (s .pre .1 .0))
+
+has-mark-requires-2 : tie.Need-has-mark-requires-2
+has-mark-requires-2 c κs = search needs
+
+returns-3 : tie.Need-returns-3
+returns-3 c =
+    let on = c .before .before .before .before in
+    let at = on .before .before .before .before in
+    let a = at .before .before .args in
+    let h = on .before .has-mark in (
+      sym (follow-had (a .c) (a .old .now) (a .word) (a .marks .now) (at .if1 .left) (on .before .before .before .near-of .ensures) (h .ensures)
+          (not-false (h .result) (on .if2 .left)) (c .before .before .before .far-of .ensures) (c .before .has-mark2 .ensures) (c .if3 .taken)),
+      kept,
+    )
+
+bit-of-requires : tie.Need-bit-of-requires
+bit-of-requires c κs = search needs
+
+slice-write-marks : tie.Need-slice-write-marks
+slice-write-marks c =
+    let s = c .before .before .before .before .before .before .before .before .before .before .before in
+    omega (arith, far-in (s .args .c .up) (s .pre .1 .0))
+
+same-length : tie.Need-same-length
+same-length c = search needs
+
+returns-4 : tie.Need-returns-4
+returns-4 c =
+    let on = c .before .before .before .before .before in
+    let at = on .before .before .before .before in
+    let s = at .before .before in
+    let a = s .args in
+    let h = on .before .has-mark in
+    let near = on .before .before .before .near-of .ensures in
+    let far = c .before .before .before .before .far-of .ensures in
+    let had = c .before .before .has-mark2 .ensures in
+    let tested = not-false (h .result) (on .if2 .left) in (
+      follow-new (a .c) (a .old .now) (a .word) (a .marks .now) (at .if1 .left) near (h .ensures) tested far had (c .bit-of .ensures),
+      follow-more (a .c) (a .old .now) (a .word) (a .marks .now) (at .if1 .left) near (h .ensures) tested far had (c .bit-of .ensures) (c .before .if3 .left)
+          (omega (arith, far-in (a .c .up) (s .pre .1 .0))),
+    )
+
+pub follow-spec : {M : Type 1} → statement M
+follow-spec =
+    tie.close
+    (tie.spec
+    returns
+    near-of-requires
+    element-copy-out-has-mark
+    has-mark-requires
+    returns-2
+    far-of-requires
+    slice-read-byte
+    has-mark-requires-2
+    returns-3
+    bit-of-requires
+    slice-write-marks
+    same-length
+    returns-4)

@@ -1,0 +1,92 @@
+-- The rounds still in the budget, from the marks as they are, give what the whole budget gives from the marks at the beginning.
+use Prim.Native.Nat.{_-_, _≤_}
+use mathlib.Core.Path.{_≡_, refl, _∙_}
+use native.Mathlib.Omega.{arith}
+use native.Mathlib.Nat.{sub-zero}
+use borrow.Author.Needs.{needs}
+use borrow.Author.Tests.{not-true, not-false}
+use lib.ListN.{length}
+use Rattle.theory.specs.Scans.{rounds}
+use Rattle.theory.proofs.Rounds.{loop-spent, loop-last, loop-more}
+use Rattle.scan_round.specs.Turns.{commands}
+use Rattle.scan_start.specs.Starts.{Low}
+use Rattle.scan_rounds.proofs.scan.Statement.{statement}
+use Rattle.scan_rounds.proofs.scan.Tie as tie
+
+abbrev Inv-loop : tie.InvT-loop
+Inv-loop kind n words budget marks₀ count₀ marks count =
+    (count ≤ budget) × (length marks ≡ length marks₀)
+    × (rounds (commands kind) words 0 budget marks₀ ≡ rounds (commands kind) words count (budget - count) marks) × Low n marks
+
+abbrev μ-loop : tie.MeasureT-loop
+μ-loop kind n words budget marks₀ count₀ marks count = budget - count
+
+loop-holds : tie.Need-loop-holds Inv-loop μ-loop
+loop-holds c =
+    let s = c .before .before in
+    (search needs, refl, rw (sub-zero (s .args .budget)), s .pre .1 .1 .1)
+
+round-requires : tie.Need-round-requires Inv-loop μ-loop
+round-requires c κs =
+    let s = c .before .before .before .before .before in
+    (s .pre .0, (s .pre .1 .0, (omega arith, c .before .before .loop .inv .3)))
+
+add-count : tie.Need-add-count Inv-loop μ-loop
+add-count c = search needs
+
+same-length : tie.Need-same-length Inv-loop μ-loop
+same-length c = c .before .before .before .round .kept .1 .1 .1 .0 ∙ c .before .before .before .before .before .before .loop .inv .1
+
+returns : tie.Need-returns Inv-loop μ-loop
+returns c =
+    let at = c .before .before .before .before .before .before in
+    let a = at .before .before .before .args in
+    let r = c .before .before .before .round in (
+      at .loop .inv .2
+          ∙ loop-last (commands (a .kind)) (a .words .now) (at .loop .count) (a .budget) (at .loop .marks) (r .last .1 .1 .1 .0) (omega arith) (r .ensures .0)
+          (r .ensures .1 .0) (not-true (r .result) (c .if1 .taken)),
+      r .ensures .1 .1,
+    )
+
+loop-less : tie.Need-loop-less Inv-loop μ-loop
+loop-less c = search needs
+
+loop-again : tie.Need-loop-again Inv-loop μ-loop
+loop-again c =
+    let at = c .before .before .before .before .before .before in
+    let a = at .before .before .before .args in
+    let r = c .before .before .before .round in (
+      omega arith,
+      r .kept .1 .1 .1 .0 ∙ at .loop .inv .1,
+      at .loop .inv .2
+          ∙ loop-more (commands (a .kind)) (a .words .now) (at .loop .count) (a .budget) (at .loop .marks) (r .last .1 .1 .1 .0) (omega arith) (r .ensures .0)
+          (r .ensures .1 .0) (not-false (r .result) (c .if1 .left)),
+      r .ensures .1 .1,
+    )
+
+same-length-2 : tie.Need-same-length-2 Inv-loop μ-loop
+same-length-2 c = c .before .loop .inv .1
+
+returns-2 : tie.Need-returns-2 Inv-loop μ-loop
+returns-2 c =
+    let at = c .before in
+    let a = at .before .before .before .args in (
+      at .loop .inv .2 ∙ loop-spent (commands (a .kind)) (a .words .now) (at .loop .count) (a .budget) (at .loop .marks) (at .loop .marks) (omega arith),
+      at .loop .inv .3,
+    )
+
+pub scan-spec : {M : Type 1} → statement M
+scan-spec =
+    tie.close
+    (tie.spec
+    Inv-loop
+    μ-loop
+    loop-holds
+    round-requires
+    add-count
+    same-length
+    returns
+    loop-less
+    loop-again
+    same-length-2
+    returns-2)
