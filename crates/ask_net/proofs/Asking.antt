@@ -11,11 +11,12 @@ use Rattle.net.specs.Table.{checkNet, badPair}
 use Rattle.net.specs.declared.Refusal.the-variants.{BadQuestion, ShortBuffer}
 use Rattle.net.specs.declared.Checked.{Checked}
 use Rattle.net.specs.declared.Checked.the-variants as checked
-use Rattle.question.specs.Table.{Question, question, readAt, questionNet, questionChecked, questioned}
+use Rattle.net.proofs.OnNet.{given, on-net}
+use Rattle.question.specs.Table.{Question, question, readAt, questionLines, questionDone, questioned}
 use Rattle.question.specs.declared.Asked.{Asked}
 use Rattle.question.specs.declared.Asked.the-variants as asked
 
-module _ (o : ℕ) (ws : List ℕ) (x y : ℕ) (m m′ : List ℕ) (e : length m ≡ length m′) where
+module _ (o k : ℕ) (ws : List ℕ) (x y : ℕ) (m m′ : List ℕ) (e : length m ≡ length m′) where
   chosen : (n : ℕ) (s : Scan) (bad short : Bool)
       → cond bad (question (asked.Refused BadQuestion) m) (cond short (question (asked.Refused ShortBuffer) m) (readAt y s (drop n m))) .answer
       ≡ cond bad (question (asked.Refused BadQuestion) m′) (cond short (question (asked.Refused ShortBuffer) m′) (readAt y s (drop n m′))) .answer
@@ -23,14 +24,20 @@ module _ (o : ℕ) (ws : List ℕ) (x y : ℕ) (m m′ : List ℕ) (e : length m
   chosen n s false true = refl
   chosen n s false false = refl
 
-  same-for : (c : Checked) → questionChecked o ws x y m c .answer ≡ questionChecked o ws x y m′ c .answer
-  unfolding questionChecked questionNet
+  -- What a question gives with some marks, by the answer of the check.
+  abbrev after : List ℕ → Checked → Question
+  after l = given (λ r. question (asked.Refused r) l) o k ws (questionLines o x y l) (questionDone ws x y l)
+
+  same-for : (c : Checked) → after m c .answer ≡ after m′ c .answer
   same-for (checked.Nodes n) = rw e (chosen n (forwardScan n ws x (2 * n)) (badPair o n x y) (ltb (length m′) n))
   same-for (checked.Refused r) = refl
 
--- As many marks, the same answer.
-pub same-answer : (o k : ℕ) (ws : List ℕ) (x y : ℕ) (m m′ : List ℕ) → length m ≡ length m′ → questioned o k ws x y m .answer ≡ questioned o k ws x y m′ .answer
-same-answer o k ws x y m m′ e = same-for o ws x y m m′ e (checkNet o k ws)
+  -- As many marks, the same answer.
+  pub same-answer : questioned o k ws x y m .answer ≡ questioned o k ws x y m′ .answer
+  same-answer =
+      ap (λ (q : Question). q .answer) (sym (on-net (λ r. question (asked.Refused r) m) o k ws (questionLines o x y m) (questionDone ws x y m)))
+      ∙ same-for (checkNet o k ws)
+      ∙ ap (λ (q : Question). q .answer) (on-net (λ r. question (asked.Refused r) m′) o k ws (questionLines o x y m′) (questionDone ws x y m′))
 
 -- So 1,024 marks answer as blank ones do.
 pub asked-blank : (o k : ℕ) (ws : List ℕ) (x y : ℕ) (m : List ℕ) {r : Asked} {left : List ℕ} → length m ≡ 1024

@@ -7,7 +7,6 @@ use Rattle.theory.specs.Marks.{mark, link, links, command, round}
 use Rattle.theory.specs.Scans.{same, rounds}
 use Rattle.net.specs.Legal.{legalPrefix}
 use Rattle.net.specs.Table.{checkNet}
-use Rattle.question.specs.Table.{questionNet, questionChecked}
 use Rattle.netfile_entry.specs.Entries.{entryAt}
 use Rattle.netfile.specs.Contents.{contentsOf}
 use Rattle.netfile_numbers.specs.Bytes.{u32s}
@@ -43,7 +42,7 @@ M-text =
     ++ (51 ∷ 32 ∷ 48 ∷ 32 ∷ 114 ∷ 101 ∷ 102 ∷ 117 ∷ 115 ∷ 101 ∷ 100 ∷ 32 ∷ 52 ∷ 10 ∷ [])
 
 pub M-reads : textOf M-file ≡ M-text
-unfolding fileText contentsOf entryAt u32s netText checkNet legalPrefix linesOf lineOf digits questionChecked questionNet rounds round command links link mark same
+unfolding fileText contentsOf entryAt u32s netText checkNet legalPrefix linesOf lineOf digits rounds round command links link mark same
 M-reads = refl
 
 -- A file that is refused: `file 9` and the place.

@@ -1,7 +1,7 @@
 -- The row of each operation fits into 32 bits.
 use Prim.Native.Nat.{ℕ, zero, suc, _+_, _*_, _<_, _≤_}
 use mathlib.Core.Path.{_≡_, refl, sym, subst}
-use mathlib.Core.Bool.{Bool, false}
+use mathlib.Core.Bool.{Bool, false, not}
 use mathlib.Core.List.{List}
 use mathlib.Core.Logic.{⊎-elim}
 use native.Mathlib.Omega.{arith}
@@ -27,8 +27,11 @@ use Rattle.net.specs.declared.Checked.{Checked}
 use Rattle.net.proofs.NetCheck.{check-is-net}
 use Rattle.scan_start.specs.Starts.{start}
 use Rattle.scan_round.specs.Turns.{commands}
-use Rattle.scan.specs.Scanning as scans
-use Rattle.question.specs.Table.{answerAt, Question, answerNumber, askedRow, questionNet, questionChecked}
+use Rattle.scan.specs.Table as scans
+use Rattle.question.specs.Table.{answerAt, Question, question, answerNumber, askedRow, questionLines, questionDone, questioned}
+use Rattle.question.specs.declared.Asked.the-variants as asked
+use Rattle.scan.specs.declared.Scanned.the-variants as scanned
+use Rattle.net.specs.Lines.{call}
 use Rattle.clash.specs.Table.{Clash, clashedRow, firstBoth, firstClash, clashNodes, clashNet, clashChecked}
 use Rattle.question.specs.declared.Answer.{Answer}
 use Rattle.question.specs.declared.Answer.the-variants.{None, Yes, No, Both}
@@ -37,7 +40,7 @@ use Rattle.completion.specs.Table.{Completion, completionNet, completionChecked
 use Rattle.reason.specs.Table.{Reason, reasonNet, reasonChecked, reasonedRow}
 use Rattle.reason_check.specs.Table.{verdictRow, verdictNet, verdictChecked}
 use Rattle.library_row.specs.Given.{Fits}
-use Rattle.library_row.proofs.Fitting.{either, fits, bare, operation-fits}
+use Rattle.library_row.proofs.Fitting.{either, fits, bare, operation-fits, table-fits}
 
 -- ── the scans ──
 
@@ -55,18 +58,18 @@ scanGives s = scans.scanRow (s .answer)
 
 -- Both scans: the count is at most the budget, which fits.
 module _ (kind : Bool) (o : ℕ) (ws : List ℕ) (x b : ℕ) (m : List ℕ) (h : b < 4294967296) where
-  scan-net-fits : (n : ℕ) → Fits (scanGives (scans.scanNet kind o n ws x b m))
-  unfolding scans.scanNet
+  scan-net-fits : (n : ℕ) → Fits (scanGives (call (scans.scanLines kind o ws x b m n) (scans.scanDone kind ws x b m n)))
   scan-net-fits n =
       let s = rounds (commands kind) ws 0 b (start kind n x) in
       let low : s .count < 4294967296 = omega (arith, within (commands kind) ws b (start kind n x)) in
       either scanGives (scans.badStart kind o n x) (λ _. bare)
       (λ _. either scanGives (ltb (length m) n) (λ _. bare)
-      (λ _. either scans.scanRow (s .done) (λ _. fits low (omega arith)) (λ _. fits low (omega arith))))
+      (λ _. either scanGives (not (s .done)) (λ _. fits h (omega arith)) (λ _. fits low (omega arith))))
 
-  pub scan-fits : (k : ℕ) → Fits (scanGives (scans.scanChecked kind o ws x b m (checkNet o k ws)))
-  unfolding scans.scanChecked
-  scan-fits k = operation-fits o k ws (λ (net : Checked). scanGives (scans.scanChecked kind o ws x b m net)) (λ r. refl) (λ n e. scan-net-fits n)
+  pub scan-fits : (k : ℕ) → Fits (scanGives (call (scans.scanTable kind o k ws x b m) (scans.scanDone kind ws x b m (o + k))))
+  scan-fits k =
+      table-fits o k ws scanGives (λ r. scans.outcome (scanned.Refused r) m) (scans.scanLines kind o ws x b m) (scans.scanDone kind ws x b m) (λ r. refl)
+      (λ n e. scan-net-fits n)
 
 -- ── the question ──
 
@@ -83,17 +86,15 @@ answer-low Both = omega arith
 
 -- The question: its number is at most 3, and it counts at most 2N rounds.
 module _ (o k : ℕ) (ws : List ℕ) (x y : ℕ) (m : List ℕ) where
-  question-net-fits : (n : ℕ) → n ≤ 1024 → Fits (questionGives (questionNet o n ws x y m))
-  unfolding questionNet
+  question-net-fits : (n : ℕ) → n ≤ 1024 → Fits (questionGives (call (questionLines o x y m n) (questionDone ws x y m n)))
   question-net-fits n h =
       let low : forwardScan n ws x (2 * n) .count < 4294967296 = omega (arith, within forward ws (2 * n) (forwardStart n x)) in
       either questionGives (badPair o n x y) (λ _. bare)
       (λ _. either questionGives (ltb (length m) n) (λ _. bare) (λ _. fits (answer-low (answerAt (getD (forwardScan n ws x (2 * n) .marks) y 0))) low))
 
-  pub question-fits : Fits (questionGives (questionChecked o ws x y m (checkNet o k ws)))
-  unfolding questionChecked
+  pub question-fits : Fits (questionGives (questioned o k ws x y m))
   question-fits =
-      operation-fits o k ws (λ (net : Checked). questionGives (questionChecked o ws x y m net)) (λ r. refl)
+      table-fits o k ws questionGives (λ r. question (asked.Refused r) m) (questionLines o x y m) (questionDone ws x y m) (λ r. refl)
       (λ n e. let t = check-is-net o k ws n e in question-net-fits n (omega (arith, t .0, t .1 .few)))
 
 -- ── the clash test ──

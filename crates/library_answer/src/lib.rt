@@ -1,6 +1,6 @@
 // The answers of scan, question, clash test, completion, reason and reason check, each as a row of the number table.
 ghost use mathlib.Core.Path.{_≡_};
-ghost use Rattle.scan.specs.Scanning.{scanRow};
+ghost use Rattle.scan.specs.Table.{scanRow};
 ghost use Rattle.question.specs.Table.{answerNumber, askedRow};
 ghost use Rattle.clash.specs.Table.{clashedRow};
 ghost use Rattle.completion.specs.Table.{completedRow};

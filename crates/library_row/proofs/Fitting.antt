@@ -1,10 +1,12 @@
 -- Rows whose values fit into 32 bits, from the check of a net on.
-use Prim.Native.Nat.{ℕ, _<_}
+use Prim.Native.Nat.{ℕ, _+_, _<_}
 use mathlib.Core.Path.{_≡_, refl, sym, subst}
 use mathlib.Core.Bool.{Bool, true, false, cond}
 use mathlib.Core.List.{List}
 use native.Mathlib.Omega.{arith}
-use Rattle.net.specs.Table.{Row, row, checkNet, checkedRow, refusalRow}
+use Rattle.net.specs.Lines.{Line, call}
+use Rattle.net.proofs.OnNet.{given, on-net}
+use Rattle.net.specs.Table.{Row, row, netLines, checkNet, checkedRow, refusalRow}
 use Rattle.net.specs.declared.Refusal.{Refusal}
 use Rattle.net.specs.declared.Refusal.the-variants.{TooManyNodes, TooManyWords, IllegalWord, BadQuestion, ShortBuffer}
 use Rattle.net.specs.declared.Checked.{Checked}
@@ -46,3 +48,10 @@ module _ (o k : ℕ) (ws : List ℕ) where
 
     pub operation-fits : Fits (f (checkNet o k ws))
     operation-fits = row-fits (checkNet o k ws) refl
+
+  -- The same of an operation whose table is a list of lines.
+  module _ {A : Type 0} (f : A → Row) (refused : Refusal → A) (lines : ℕ → List (Line A)) (done : ℕ → A) where
+    pub table-fits : ((r : Refusal) → f (refused r) ≡ refusalRow r) → ((n : ℕ) → checkNet o k ws ≡ Nodes n → Fits (f (call (lines n) (done n))))
+        → Fits (f (call (netLines refused o k ws (lines (o + k))) (done (o + k))))
+    table-fits passed nets =
+        subst (λ (a : A). Fits (f a)) (on-net refused o k ws lines done) (operation-fits (λ (net : Checked). f (given refused o k ws lines done net)) passed nets)

@@ -1,6 +1,11 @@
 -- The paper's row tells which refusal it is.
-use Prim.Native.Nat.{ℕ, zero, suc, _-_}
+use Prim.Native.Nat.{ℕ, zero, suc, _-_, _<_}
 use mathlib.Core.Path.{_≡_, refl, sym, ap, _∙_}
+use mathlib.Core.Bool.{false}
+use mathlib.Core.Logic.{_⊎_, inl, inr}
+use native.Mathlib.Omega.{arith}
+use borrow.Author.Tests.{ne-eqb}
+use lib.Dec.{eqb}
 use Rattle.net.specs.Table.{Row, refusalRow, checkedRow}
 use Rattle.net.specs.declared.Checked.{Checked}
 use Rattle.net.specs.declared.Checked.the-variants.{Nodes, Refused}
@@ -29,6 +34,19 @@ refusal-at-row ShortBuffer = refl
 -- No two refusals have one row.
 pub refusal-row-one-to-one : (r q : Refusal) → refusalRow r ≡ refusalRow q → r ≡ q
 refusal-row-one-to-one r q e = sym (refusal-at-row r) ∙ ap refusalAt e ∙ refusal-at-row q
+
+-- A refusal's number is 1 to 5.
+pub refusal-numbers : (r : Refusal) → (0 < refusalRow r .number) × (refusalRow r .number < 6)
+refusal-numbers TooManyNodes = (omega arith, omega arith)
+refusal-numbers TooManyWords = (omega arith, omega arith)
+refusal-numbers (IllegalWord i) = (omega arith, omega arith)
+refusal-numbers BadQuestion = (omega arith, omega arith)
+refusal-numbers ShortBuffer = (omega arith, omega arith)
+
+-- So it is no other number.
+pub refusal-not : (r : Refusal) (n : ℕ) → (n ≡ 0) ⊎ (5 < n) → eqb (refusalRow r .number) n ≡ false
+refusal-not r n (inl h) = ne-eqb (refusalRow r .number) n (λ e. omega (arith, refusal-numbers r, e))
+refusal-not r n (inr h) = ne-eqb (refusalRow r .number) n (λ e. omega (arith, refusal-numbers r, e))
 
 -- The answer of the check of a net, by its number and value.
 abbrev checkedOf : ℕ → Row → Checked

@@ -1,23 +1,32 @@
 -- Rows 1 to 3 as the check of a net, the tests of row 4 for a statement, and what a row of the number table is: of each refusal, and of that check.
 use Prim.Native.Nat.{ℕ, _+_}
-use mathlib.Core.Bool.{Bool, cond, _||_}
-use mathlib.Core.List.{List}
+use mathlib.Core.Bool.{Bool, _||_}
+use mathlib.Core.List.{List, [], _∷_}
 use lib.Dec.{ltb, leb}
 use lib.ListN.{length}
 use Rattle.theory.specs.Words.{nodeLimit, wordLimit}
 use Rattle.net.specs.Legal.{legalPrefix}
+use Rattle.net.specs.Lines.{Line, line, call}
 use Rattle.net.specs.declared.Refusal.{Refusal}
 use Rattle.net.specs.declared.Refusal.the-variants.{TooManyNodes, TooManyWords, IllegalWord, BadQuestion, ShortBuffer}
 use Rattle.net.specs.declared.Checked.{Checked}
 use Rattle.net.specs.declared.Checked.the-variants.{Nodes, Refused}
 
--- Rows 1, 2 and 3 in their order, or the number of nodes. The sum is one of whole numbers.
+-- Lines 1, 2 and 3, with which every call on a net begins, where `refused` is what a refusal leaves; then the lines of the operation. The
+-- sum is one of whole numbers.
+abbrev pub netLines : {A : Type 0} → (Refusal → A) → ℕ → ℕ → List ℕ → List (Line A) → List (Line A)
+netLines refused o k ws rest =
+    line 1 (ltb nodeLimit (o + k)) (refused TooManyNodes)
+    ∷ line 2 (ltb wordLimit (length ws)) (refused TooManyWords)
+    ∷ line 3 (ltb (legalPrefix o (o + k) ws) (length ws)) (refused (IllegalWord (legalPrefix o (o + k) ws)))
+    ∷ rest
+
+-- The check of a net: these three, or the number of nodes.
+abbrev pub netTable : ℕ → ℕ → List ℕ → List (Line Checked)
+netTable o k ws = netLines Refused o k ws []
+
 unfoldable pub checkNet : ℕ → ℕ → List ℕ → Checked
-checkNet o k ws =
-    cond (ltb nodeLimit (o + k)) (Refused TooManyNodes)
-    (cond (ltb wordLimit (length ws)) (Refused TooManyWords)
-    (cond (ltb (legalPrefix o (o + k) ws) (length ws)) (Refused (IllegalWord (legalPrefix o (o + k) ws)))
-    (Nodes (o + k))))
+checkNet o k ws = call (netTable o k ws) (Nodes (o + k))
 
 -- Row 4 for a statement about x and y in a net of n nodes: x is no node, or y is no kind.
 abbrev pub badPair : ℕ → ℕ → ℕ → ℕ → Bool

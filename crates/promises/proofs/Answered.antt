@@ -17,7 +17,7 @@ use Rattle.theory.proofs.Growth.{Puts}
 use Rattle.theory.proofs.Starts.{forward-long, kind-long, forward-puts-8, kindly-puts-8}
 use Rattle.theory.proofs.Budgets.{spent-marks}
 use Rattle.theory.proofs.Bounds.{scan-long}
-use Rattle.scan.specs.Scanning.{Outcome, forwardScanned, kindScanned, scanRow}
+use Rattle.scan.specs.Table.{Outcome, forwardScanned, kindScanned, scanRow}
 use Rattle.scan.specs.declared.Scanned.{Scanned}
 use Rattle.scan.specs.declared.Scanned.the-variants as scanned
 use Rattle.question.specs.Table.{Question, questioned, answerAt, askedRow}

@@ -7,7 +7,6 @@ use Rattle.theory.specs.Marks.{mark, link, links, command, round}
 use Rattle.theory.specs.Scans.{same, rounds}
 use Rattle.net.specs.Legal.{legalPrefix}
 use Rattle.net.specs.Table.{checkNet}
-use Rattle.question.specs.Table.{questionNet, questionChecked}
 use Rattle.netfile_entry.specs.Entries.{entryAt}
 use Rattle.netfile.specs.Contents.{contentsOf}
 use Rattle.netfile_numbers.specs.Bytes.{u32s}
@@ -42,5 +41,5 @@ printedM =
 
 -- `ask` prints them.
 pub ask-prints : textOf fileM ≡ printedM
-unfolding fileText netText linesOf lineOf digits contentsOf entryAt u32s checkNet legalPrefix questionNet questionChecked rounds same round command links link mark
+unfolding fileText netText linesOf lineOf digits contentsOf entryAt u32s checkNet legalPrefix rounds same round command links link mark
 ask-prints = refl

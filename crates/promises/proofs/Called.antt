@@ -17,11 +17,10 @@ use Rattle.net.specs.declared.Refusal.{Refusal}
 use Rattle.net.specs.declared.Refusal.the-variants.{TooManyNodes, TooManyWords, IllegalWord, BadQuestion, ShortBuffer}
 use Rattle.net.specs.declared.Checked.{Checked}
 use Rattle.net.specs.declared.Checked.the-variants as checked
-use Rattle.scan.specs.Scanning.{outcome, ran, scanNet, scanChecked, forwardScanned, kindScanned}
 use Rattle.scan_start.specs.Starts.{cleared}
 use Rattle.scan.specs.declared.Scanned.the-variants as scanned
 use Rattle.question.specs.declared.Asked.the-variants as asked
-use Rattle.question.specs.Table.{question, questionNet, questionChecked, questioned}
+use Rattle.question.specs.Table.{question, questioned}
 use Rattle.clash.specs.Table.{clash, clashNodes, firstClash, clashedRow, clashNet, clashChecked, clashedBy}
 use Rattle.clash.specs.declared.Clashed.{Clashed}
 use Rattle.clash.specs.declared.Clashed.the-variants as clashed
@@ -37,8 +36,11 @@ use Rattle.netfile_entry.specs.Entries.{entryAt}
 use Rattle.netfile_entry.specs.declared.Entry.the-variants.{Open, Closed}
 use Rattle.netfile.specs.declared.Contents.{Contents}
 use Rattle.netfile.specs.declared.Contents.the-variants.{Bodies, Malformed}
-use Rattle.promises.specs.Tables.{call}
-use Rattle.promises.specs.Calls.{netTable, netDone, forwardTable, forwardDone, kindTable, kindDone, questionTable, questionDone, clashTable, clashDone, completionTable, completionDone, reasonTable, reasonDone, checkTable, checkDone, Reading, reading, readFrom, wordsAt, questionsAt, missized, firstWrong, secondWrong, thirdWrong, fileTable, fileDone}
+use Rattle.net.specs.Lines.{call}
+use Rattle.net.specs.Table.{netTable}
+use Rattle.scan.specs.Table.{scanTable, scanDone}
+use Rattle.question.specs.Table.{questionTable, questionDone}
+use Rattle.promises.specs.Calls.{netDone, clashTable, clashDone, completionTable, completionDone, reasonTable, reasonDone, checkTable, checkDone, Reading, reading, readFrom, wordsAt, questionsAt, missized, firstWrong, secondWrong, thirdWrong, fileTable, fileDone}
 
 -- A call on a net: refused by line 1, 2 or 3 as the check of the net is, and otherwise as on its nodes.
 module _ {A : Type 0} (f : Checked → A) (refused : Refusal → A) (passes-on : (r : Refusal) → f (checked.Refused r) ≡ refused r) (o k : ℕ) (ws : List ℕ) where
@@ -58,20 +60,6 @@ module _ {A : Type 0} (f : Checked → A) (refused : Refusal → A) (passes-on :
       at false false true = passes-on (IllegalWord (legalPrefix o (o + k) ws))
       at false false false = e
 
--- Line 6 and a scan that is done: where the budget is spent, the marks are those after that many rounds.
-scan-over : (cs : List Command) (ws m : List ℕ) (budget : ℕ) (past : List ℕ)
-    → ran (rounds cs ws 0 budget m) past
-    ≡ cond (not (rounds cs ws 0 budget m .done)) (outcome (scanned.Spent budget) (after cs ws budget m ++ past))
-    (outcome (scanned.Done (rounds cs ws 0 budget m .count)) (rounds cs ws 0 budget m .marks ++ past))
-scan-over cs ws m budget past = at (rounds cs ws 0 budget m .done) refl
-  where
-    at : (d : Bool) → rounds cs ws 0 budget m .done ≡ d
-        → outcome (cond d (scanned.Done (rounds cs ws 0 budget m .count)) (scanned.Spent (rounds cs ws 0 budget m .count))) (rounds cs ws 0 budget m .marks ++ past)
-        ≡ cond (not d) (outcome (scanned.Spent budget) (after cs ws budget m ++ past))
-        (outcome (scanned.Done (rounds cs ws 0 budget m .count)) (rounds cs ws 0 budget m .marks ++ past))
-    at true e = refl
-    at false e = let s = spent-marks cs ws m budget e in rw (s .0, s .1)
-
 -- Line 7 of the clash test and a clash found.
 clash-over : (c : Clashed) (m : List ℕ) → clash c m ≡ cond (eqb (clashedRow c .number) 7) (clash clashed.Nowhere m) (clash c m)
 clash-over (clashed.At x y) m = refl
@@ -82,34 +70,7 @@ clash-over (clashed.Refused (IllegalWord i)) m = refl
 clash-over (clashed.Refused BadQuestion) m = refl
 clash-over (clashed.Refused ShortBuffer) m = refl
 
--- The same outcome after two lines that may apply before.
-after-two : {A : Type 0} (a b : Bool) (u v : A) {r q : A} → r ≡ q → cond a u (cond b v r) ≡ cond a u (cond b v q)
-after-two a b u v e = rw e
-
 module _ (o k : ℕ) (ws : List ℕ) where
-  -- The check of a net.
-  pub net-called : checkNet o k ws ≡ call (netTable o k ws) (netDone o k ws)
-  net-called = on-net (λ r. r) checked.Refused (λ r. refl) o k ws refl
-
-  -- The forward scan.
-  pub forward-called : (x budget : ℕ) (m : List ℕ) → forwardScanned o k ws x budget m ≡ call (forwardTable o k ws x budget m) (forwardDone o k ws x budget m)
-  unfolding scanChecked scanNet
-  forward-called x budget m =
-      on-net (scanChecked false o ws x budget m) (λ r. outcome (scanned.Refused r) m) (λ r. refl) o k ws
-      (rw (or-false (leb (o + k) x)) (after-two (leb (o + k) x) (ltb (length m) (o + k)) _ _ (scan-over forward ws (forwardStart (o + k) x) budget (drop (o + k) m))))
-
-  -- The kind scan.
-  pub kind-called : (y budget : ℕ) (m : List ℕ) → kindScanned o k ws y budget m ≡ call (kindTable o k ws y budget m) (kindDone o k ws y budget m)
-  unfolding scanChecked scanNet
-  kind-called y budget m =
-      on-net (scanChecked true o ws y budget m) (λ r. outcome (scanned.Refused r) m) (λ r. refl) o k ws
-      (after-two (leb (o + k) y || ltb y o) (ltb (length m) (o + k)) _ _ (scan-over kindly ws (kindStart (o + k) y) budget (drop (o + k) m)))
-
-  -- The question.
-  pub question-called : (x y : ℕ) (m : List ℕ) → questioned o k ws x y m ≡ call (questionTable o k ws x y m) (questionDone o k ws x y m)
-  unfolding questionChecked questionNet
-  question-called x y m = on-net (questionChecked o ws x y m) (λ r. question (asked.Refused r) m) (λ r. refl) o k ws refl
-
   -- The clash test.
   pub clash-called : (m : List ℕ) → clashedBy o k ws m ≡ call (clashTable o k ws m) (clashDone o k ws m)
   unfolding clashChecked clashNet

@@ -6,7 +6,8 @@ use mathlib.Core.List.{List, [], _∷_}
 use lib.Dec.{eqb}
 use borrow.Author.Tests.{eqb-true, eqb-false, not-true}
 use Rattle.theory_laws.proofs.Booleans.{clash, and-left, and-right}
-use Rattle.promises.specs.Tables.{Line, call, NoLine, choose, Due, outcomeOf, among, distinct, Numbered, Table, Obeys}
+use Rattle.net.specs.Lines.{Line, call}
+use Rattle.promises.specs.Tables.{NoLine, choose, Due, outcomeOf, among, distinct, Numbered, Table, Obeys}
 
 -- A number that is not among some lines is neither the first line's nor among the rest.
 not-first : {A : Type 0} (n : ℕ) (l : Line A) (ls : List (Line A)) → among n (l ∷ ls) ≡ false → eqb (l .number) n ≡ false

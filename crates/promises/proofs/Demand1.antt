@@ -11,7 +11,7 @@ use Rattle.theory.specs.Words.{signAt}
 use Rattle.theory.specs.Completion.{fullMarks}
 use Rattle.theory.specs.Checks.{passes}
 use Rattle.net.specs.Table.{checkNet}
-use Rattle.scan.specs.Scanning.{forwardScanned, kindScanned}
+use Rattle.scan.specs.Table.{forwardScanned, kindScanned}
 use Rattle.question.specs.Table.{questioned}
 use Rattle.clash.specs.Table.{firstBoth, firstClash, clashNodes, clashedRow, clashedBy}
 use Rattle.clash.specs.declared.Clashed.the-variants as clashed
@@ -20,12 +20,15 @@ use Rattle.reason.specs.Table.{reasoned}
 use Rattle.reason_check.specs.Table.{verdict}
 use Rattle.reason_check.specs.declared.Verdict.the-variants.{Holds, Fails}
 use Rattle.promises.specs.Tables.{Obeys}
-use Rattle.promises.specs.Calls.{netTable, netDone, forwardTable, forwardDone, kindTable, kindDone, questionTable, questionDone, noClash, clashTable, clashDone, completionTable, completionDone, reasonTable, reasonDone, checkTable, checkDone, readFrom, fileTable, fileDone}
+use Rattle.net.specs.Table.{netTable}
+use Rattle.scan.specs.Table.{scanTable, scanDone}
+use Rattle.question.specs.Table.{questionTable, questionDone}
+use Rattle.promises.specs.Calls.{netDone, noClash, clashTable, clashDone, completionTable, completionDone, reasonTable, reasonDone, checkTable, checkDone, readFrom, fileTable, fileDone}
 use Rattle.promises.specs.Numbers.{checkedNumber, scanNumber, questionNumber, clashNumber, completionNumber, reasonNumber, verdictNumber, readingNumber}
 use Rattle.promises.specs.Engines.{ours}
 use Rattle.promises.specs.Demand1.{Demand1}
 use Rattle.promises.proofs.Deciding.{obeys}
-use Rattle.promises.proofs.Called.{net-called, forward-called, kind-called, question-called, clash-called, completion-called, reason-called, check-called, file-called}
+use Rattle.promises.proofs.Called.{clash-called, completion-called, reason-called, check-called, file-called}
 
 -- A search for a clash ends with 0 or with 7.
 clash-or-none : (o k : ℕ) (ws : List ℕ) (x j : ℕ) → (clashedRow (firstClash o k ws x j) .number ≡ 0) ⊎ (clashedRow (firstClash o k ws x j) .number ≡ 7)
@@ -55,27 +58,28 @@ verdict-done false = refl
 module _ (o k : ℕ) (ws : List ℕ) where
   -- The check of a net obeys its table: numbers 1 to 3, or 0.
   pub net-obeys : Obeys checkedNumber (netTable o k ws) (netDone o k ws) (checkNet o k ws)
+  unfolding checkNet
   net-obeys =
       obeys checkedNumber _ _ (record { numbered = (refl, (refl, (refl, tt))); once = refl; nonzero = refl; zero = λ h. refl }) _
-      (net-called o k ws)
+      refl
 
   -- The forward scan: numbers 1 to 6, or 0.
-  pub forward-obeys : (x budget : ℕ) (m : List ℕ) → Obeys scanNumber (forwardTable o k ws x budget m) (forwardDone o k ws x budget m) (forwardScanned o k ws x budget m)
+  pub forward-obeys : (x budget : ℕ) (m : List ℕ) → Obeys scanNumber (scanTable false o k ws x budget m) (scanDone false ws x budget m (o + k)) (forwardScanned o k ws x budget m)
   forward-obeys x budget m =
       obeys scanNumber _ _ (record { numbered = (refl, (refl, (refl, (refl, (refl, (refl, tt)))))); once = refl; nonzero = refl; zero = λ h. refl }) _
-      (forward-called o k ws x budget m)
+      refl
 
   -- The kind scan: numbers 1 to 6, or 0.
-  pub kind-obeys : (y budget : ℕ) (m : List ℕ) → Obeys scanNumber (kindTable o k ws y budget m) (kindDone o k ws y budget m) (kindScanned o k ws y budget m)
+  pub kind-obeys : (y budget : ℕ) (m : List ℕ) → Obeys scanNumber (scanTable true o k ws y budget m) (scanDone true ws y budget m (o + k)) (kindScanned o k ws y budget m)
   kind-obeys y budget m =
       obeys scanNumber _ _ (record { numbered = (refl, (refl, (refl, (refl, (refl, (refl, tt)))))); once = refl; nonzero = refl; zero = λ h. refl }) _
-      (kind-called o k ws y budget m)
+      refl
 
   -- The question: numbers 1 to 5, or 0; so never 6.
-  pub question-obeys : (x y : ℕ) (m : List ℕ) → Obeys questionNumber (questionTable o k ws x y m) (questionDone o k ws x y m) (questioned o k ws x y m)
+  pub question-obeys : (x y : ℕ) (m : List ℕ) → Obeys questionNumber (questionTable o k ws x y m) (questionDone ws x y m (o + k)) (questioned o k ws x y m)
   question-obeys x y m =
       obeys questionNumber _ _ (record { numbered = (refl, (refl, (refl, (refl, (refl, tt))))); once = refl; nonzero = refl; zero = λ h. refl }) _
-      (question-called o k ws x y m)
+      refl
 
   -- The clash test: numbers 1, 2, 3, 5 and 7, or 0.
   pub clash-obeys : (m : List ℕ) → Obeys clashNumber (clashTable o k ws m) (clashDone o k ws m) (clashedBy o k ws m)

@@ -11,9 +11,9 @@ use Rattle.theory.specs.Scans.{same, rounds}
 use Rattle.theory.proofs.Loss.{two-is-not-four, nought-is-not-four}
 use Rattle.net.specs.Legal.{legalPrefix}
 use Rattle.net.specs.Table.{checkNet}
-use Rattle.scan.specs.Scanning.{Outcome}
+use Rattle.scan.specs.Table.{Outcome}
 use Rattle.scan.specs.declared.Scanned.the-variants as scanned
-use Rattle.question.specs.Table.{questioned, questionNet, questionChecked}
+use Rattle.question.specs.Table.{questioned}
 use Rattle.clash.specs.Table.{firstBoth, firstClash}
 use Rattle.question.specs.declared.Answer.the-variants.{None, Yes}
 use Rattle.question.specs.declared.Asked.the-variants as asked
@@ -37,7 +37,7 @@ follows-all = refl
 
 -- Our engine says nothing about it.
 says-none : questioned 1 2 (2 ∷ 3 ∷ []) 0 2 (blank 3) .answer ≡ asked.Done None 2
-unfolding checkNet legalPrefix questionNet questionChecked rounds same round command links link mark
+unfolding checkNet legalPrefix rounds same round command links link mark
 says-none = refl
 
 -- So 0 → 2 is not supported, and a yes is wrong.

@@ -17,7 +17,8 @@ use Rattle.theory.proofs.Demand3.{SameAnswer}
 use Rattle.net.specs.Table.{badPair}
 use Rattle.net.specs.declared.Refusal.the-variants.{BadQuestion, ShortBuffer}
 use Rattle.net.proofs.NetCheck.{net-is-checked}
-use Rattle.question.specs.Table.{question, questioned, questionNet, questionChecked, answerAt, readAt}
+use Rattle.question.specs.Table.{Question, question, questionLines, questionDone, questioned, answerAt, readAt}
+use Rattle.net.proofs.OnNet.{gone-on}
 use Rattle.question.specs.declared.Answer.{Answer}
 use Rattle.question.specs.declared.Asked.{Asked}
 use Rattle.question.specs.declared.Asked.the-variants as asked
@@ -56,8 +57,9 @@ module _ (o k x y : ℕ) where
 
     net-answer : (ws : List ℕ) → Net o k ws
         → questioned o k ws x y m .answer ≡ answer (badPair o (o + k) x y) (ltb (length m) (o + k)) (byte o k ws x y) (forwardScan (o + k) ws x (2 * (o + k)) .count)
-    unfolding questionChecked questionNet
-    net-answer ws n = rw (net-is-checked o k ws n) (at (badPair o (o + k) x y) (ltb (length m) (o + k)))
+    net-answer ws n =
+        ap (λ (q : Question). q .answer) (sym (gone-on (λ r. question (asked.Refused r) m) o k ws (questionLines o x y m) (questionDone ws x y m) (net-is-checked o k ws n) refl))
+        ∙ at (badPair o (o + k) x y) (ltb (length m) (o + k))
       where
         at : (p q : Bool)
             → cond p (question (asked.Refused BadQuestion) m)

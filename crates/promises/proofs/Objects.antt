@@ -8,17 +8,17 @@ use Rattle.theory.specs.Words.{Sign, is}
 use Rattle.theory.specs.Nets.{Links, LegalWords}
 use Rattle.theory.specs.Support.{Supported}
 use Rattle.theory.specs.Marks.{mark, link, links, command, round, blank, markerOf, At}
-use Rattle.theory.specs.Scans.{same, rounds}
+use Rattle.theory.specs.Scans.{after, same, rounds}
 use Rattle.theory.proofs.Inside.{legal-links}
 use Rattle.theory.proofs.Joining.{ends}
 use Rattle.net.specs.Legal.{legalPrefix}
 use Rattle.net.specs.Table.{checkNet}
-use Rattle.scan.specs.Scanning.{Outcome, forwardScanned, scanNet, scanChecked}
+use Rattle.scan.specs.Table.{Outcome, forwardScanned}
 use Rattle.scan.specs.declared.Scanned.the-variants as scanned
 
 -- One object, one kind, no words: the scan from the object leaves T on it.
 on-itself : forwardScanned 1 1 [] 0 1 (blank 2) ≡ record { answer = scanned.Done 1; marks = 1 ∷ 0 ∷ [] }
-unfolding checkNet legalPrefix scanNet scanChecked rounds same round command links link mark
+unfolding checkNet legalPrefix after rounds same round command links link mark
 on-itself = refl
 
 no-words : LegalWords 1 1 []

@@ -1,9 +1,9 @@
 -- Links stand in any order and a repeated word counts once: over two nets with the same words each scan and each question does the same.
 -- The completion, the clash test, the reason and the reason check stand in `Reordered`.
 use Prim.Native.Nat.{ℕ, _+_, _*_, _<_}
-use mathlib.Core.Path.{_≡_, refl, ap}
+use mathlib.Core.Path.{_≡_, refl, sym, ap, _∙_}
 use mathlib.Core.Bool.{Bool, true, false, cond}
-use mathlib.Core.List.{List}
+use mathlib.Core.List.{List, _++_}
 use native.Mathlib.Omega.{arith}
 use lib.Dec.{ltb, leb}
 use lib.ListN.{length, drop}
@@ -17,8 +17,16 @@ use Rattle.theory.proofs.Order.{Among, rounds-order}
 use Rattle.theory.proofs.Starts.{forward-long, kind-long, forward-puts-8, kindly-puts-8}
 use Rattle.net.specs.Table.{badPair}
 use Rattle.net.proofs.NetCheck.{net-is-checked}
-use Rattle.scan.specs.Scanning.{ran, badStart, scanNet, scanChecked, forwardScanned, kindScanned}
-use Rattle.question.specs.Table.{questioned, readAt, questionNet, questionChecked}
+use Rattle.scan.specs.Table.{Outcome, outcome, badStart, scanLines, scanDone, scanTable, forwardScanned, kindScanned}
+use Rattle.scan.specs.declared.Scanned.the-variants as scanned
+use Rattle.scan.proofs.Outcomes.{over, scan-over}
+use Rattle.scan_start.specs.Starts.{start}
+use Rattle.scan_round.specs.Turns.{commands}
+use Rattle.net.specs.Lines.{call}
+use Rattle.net.specs.declared.Refusal.{Refusal}
+use Rattle.net.proofs.OnNet.{gone-on}
+use Rattle.question.specs.Table.{Question, question, questionLines, questionDone, questioned, readAt}
+use Rattle.question.specs.declared.Asked.the-variants as asked
 
 -- The same after two tests, where it is the same if the first does not apply.
 pub after-tests : {A : Type 0} (a b : Bool) (u v : A) {r q : A} → (a ≡ false → r ≡ q) → cond a u (cond b v r) ≡ cond a u (cond b v q)
@@ -38,26 +46,31 @@ module _ (o k : ℕ) (ws vs : List ℕ) (n : Net o k ws) (p : Net o k vs) (to : 
       rounds-order (o + k) ws vs (legal-inside o k ws (n .legal)) (legal-inside o k vs (p .legal)) to from kindly kindly-puts-8 budget 0 (kindStart (o + k) y)
       (omega (arith, kind-long (o + k) y h))
 
+  -- A scan that does the same rounds does the same.
+  scan-same : (kind : Bool) (x budget : ℕ) (m : List ℕ)
+      → (badStart kind o (o + k) x ≡ false → rounds (commands kind) ws 0 budget (start kind (o + k) x) ≡ rounds (commands kind) vs 0 budget (start kind (o + k) x))
+      → call (scanTable kind o k ws x budget m) (scanDone kind ws x budget m (o + k)) ≡ call (scanTable kind o k vs x budget m) (scanDone kind vs x budget m (o + k))
+  scan-same kind x budget m f =
+      let over-past : Scan → Outcome = λ s. over (record { done = s .done; count = s .count; marks = s .marks ++ drop (o + k) m }) in
+      let refused : Refusal → Outcome = λ r. outcome (scanned.Refused r) m in
+      sym (gone-on refused o k ws (scanLines kind o ws x budget m) (scanDone kind ws x budget m) (net-is-checked o k ws n) refl)
+      ∙ after-tests (badStart kind o (o + k) x) (ltb (length m) (o + k)) _ _
+      (λ e. sym (scan-over (commands kind) ws (start kind (o + k) x) budget (drop (o + k) m)) ∙ ap over-past (f e) ∙ scan-over (commands kind) vs (start kind (o + k) x) budget (drop (o + k) m))
+      ∙ gone-on refused o k vs (scanLines kind o vs x budget m) (scanDone kind vs x budget m) (net-is-checked o k vs p) refl
+
   -- The forward scan, its count among it.
   pub forward-order : (x budget : ℕ) (m : List ℕ) → forwardScanned o k ws x budget m ≡ forwardScanned o k vs x budget m
-  unfolding scanChecked scanNet
-  forward-order x budget m =
-      rw (net-is-checked o k ws n, net-is-checked o k vs p)
-      (after-tests (badStart false o (o + k) x) (ltb (length m) (o + k)) _ _
-      (λ e. ap (λ (s : Scan). ran s (drop (o + k) m)) (forward-same x budget (leb-false (o + k) x (or-none-left (leb (o + k) x) _ e)))))
+  forward-order x budget m = scan-same false x budget m (λ e. forward-same x budget (leb-false (o + k) x e))
 
   -- The kind scan.
   pub kind-order : (y budget : ℕ) (m : List ℕ) → kindScanned o k ws y budget m ≡ kindScanned o k vs y budget m
-  unfolding scanChecked scanNet
-  kind-order y budget m =
-      rw (net-is-checked o k ws n, net-is-checked o k vs p)
-      (after-tests (badStart true o (o + k) y) (ltb (length m) (o + k)) _ _
-      (λ e. ap (λ (s : Scan). ran s (drop (o + k) m)) (kind-same y budget (leb-false (o + k) y (or-none-left (leb (o + k) y) _ e)))))
+  kind-order y budget m = scan-same true y budget m (λ e. kind-same y budget (leb-false (o + k) y (or-none-left (leb (o + k) y) _ e)))
 
   -- The question.
   pub question-order : (x y : ℕ) (m : List ℕ) → questioned o k ws x y m ≡ questioned o k vs x y m
-  unfolding questionChecked questionNet
   question-order x y m =
-      rw (net-is-checked o k ws n, net-is-checked o k vs p)
-      (after-tests (badPair o (o + k) x y) (ltb (length m) (o + k)) _ _
-      (λ e. ap (λ (s : Scan). readAt y s (drop (o + k) m)) (forward-same x (2 * (o + k)) (leb-false (o + k) x (or-none-left (leb (o + k) x) _ e)))))
+      let refused : Refusal → Question = λ r. question (asked.Refused r) m in
+      sym (gone-on refused o k ws (questionLines o x y m) (questionDone ws x y m) (net-is-checked o k ws n) refl)
+      ∙ after-tests (badPair o (o + k) x y) (ltb (length m) (o + k)) _ _
+      (λ e. ap (λ (s : Scan). readAt y s (drop (o + k) m)) (forward-same x (2 * (o + k)) (leb-false (o + k) x (or-none-left (leb (o + k) x) _ e))))
+      ∙ gone-on refused o k vs (questionLines o x y m) (questionDone vs x y m) (net-is-checked o k vs p) refl

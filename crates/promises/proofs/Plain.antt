@@ -17,7 +17,7 @@ use Rattle.theory.specs.Scans.{Count, forwardScan}
 use Rattle.theory_laws.proofs.Deciding.{Decides}
 use Rattle.net.specs.Legal.{legalPrefix}
 use Rattle.net.proofs.NetCheck.{FirstIllegal}
-use Rattle.scan.specs.Scanning.{forwardScanned}
+use Rattle.scan.specs.Table.{forwardScanned}
 use Rattle.promises.specs.Numbers.{scanNumber}
 use Rattle.promises.proofs.Demand1.{forward-obeys}
 use Rattle.promises.proofs.Tests.{line-1, line-2, line-3, past-line-3, line-4-start, line-5, line-6}

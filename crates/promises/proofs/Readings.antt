@@ -4,14 +4,12 @@ use mathlib.Core.Bool.{true}
 use mathlib.Core.List.{List, _∷_, List·Memᴰ, List·Memᴰ·head, List·Memᴰ·tail}
 use Rattle.theory_laws.proofs.Booleans.{and-left, and-right}
 use Rattle.theory.specs.Marks.{mark, link, links, command, round}
-use Rattle.theory.specs.Scans.{same, rounds}
+use Rattle.theory.specs.Scans.{after, same, rounds}
 use Rattle.theory.specs.Completion.{row, rows, complete}
 use Rattle.theory.specs.Searches.{arcs, level, levels, distances, next, descend, reasonStates, firsts, reasonList}
 use Rattle.theory.proofs.Rounds.{same-eq}
 use Rattle.net.specs.Legal.{legalPrefix}
 use Rattle.net.specs.Table.{checkNet}
-use Rattle.scan.specs.Scanning.{scanNet, scanChecked}
-use Rattle.question.specs.Table.{questionNet, questionChecked}
 use Rattle.clash.specs.Table.{firstBoth, firstClash, clashNet, clashChecked}
 use Rattle.completion.specs.Table.{completionNet, completionChecked}
 use Rattle.reason.specs.Table.{reasonNet, reasonChecked}
@@ -19,7 +17,7 @@ use Rattle.promises.specs.Readings.{Entry, readings, allAgree}
 
 -- The statements give every reading as the paper has it.
 pub all-agree : allAgree readings ≡ true
-unfolding allAgree same checkNet legalPrefix scanNet scanChecked questionNet questionChecked firstBoth firstClash clashNet clashChecked completionNet completionChecked reasonNet reasonChecked rounds round command links link mark complete rows row arcs level levels distances next descend reasonStates firsts reasonList
+unfolding allAgree same checkNet legalPrefix after firstBoth firstClash clashNet clashChecked completionNet completionChecked reasonNet reasonChecked rounds round command links link mark complete rows row arcs level levels distances next descend reasonStates firsts reasonList
 all-agree = refl
 
 -- Where all entries of a table agree, each is an equation.

@@ -6,7 +6,7 @@ use mathlib.Core.List.{List, _++_}
 use lib.ListN.{length, drop}
 use Rattle.net.specs.Table.{checkNet}
 use Rattle.net.specs.declared.Checked.{Checked}
-use Rattle.scan.specs.Scanning.{Outcome, outcome, forwardScanned, kindScanned}
+use Rattle.scan.specs.Table.{Outcome, outcome, forwardScanned, kindScanned}
 use Rattle.scan.specs.declared.Scanned.{Scanned}
 use Rattle.question.specs.Table.{Question, question, questioned}
 use Rattle.clash.specs.Table.{Clash, clash, clashedBy}
@@ -21,7 +21,8 @@ use Rattle.reason_check.specs.declared.Verdict.{Verdict}
 use Rattle.netfile.specs.Contents.{contentsOf, bodiesOf}
 use Rattle.netfile.specs.declared.Contents.{Contents}
 use Rattle.ask_text.specs.Text.{textOf}
-use Rattle.promises.specs.Tables.{Line, Obeys}
+use Rattle.net.specs.Lines.{Line}
+use Rattle.promises.specs.Tables.{Obeys}
 
 -- Two things that are both a third are one.
 both-are : {A : Type 0} {s : A} (a b : A) → a ≡ s → b ≡ s → a ≡ b

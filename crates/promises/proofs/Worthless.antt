@@ -15,22 +15,22 @@ use Rattle.theory.specs.Words.{isnt, wordLimit}
 use Rattle.theory.specs.Nets.{Net}
 use Rattle.theory.specs.Support.{r1}
 use Rattle.theory.specs.Marks.{F, has, mark, link, links, command, round, forward, forwardStart, blank}
-use Rattle.theory.specs.Scans.{same, rounds}
+use Rattle.theory.specs.Scans.{after, same, rounds}
 use Rattle.theory.proofs.Budgets.{count-unique}
 use Rattle.theory.proofs.Loss.{nought-is-not-four}
 use Rattle.net.specs.Legal.{legalPrefix}
 use Rattle.net.specs.Table.{checkNet, refusalRow}
 use Rattle.net.specs.declared.Refusal.{Refusal}
 use Rattle.net.specs.declared.Refusal.the-variants.{TooManyNodes, TooManyWords, IllegalWord, BadQuestion, ShortBuffer}
-use Rattle.scan.specs.Scanning.{Outcome, forwardScanned, scanNet, scanChecked}
+use Rattle.scan.specs.Table.{Outcome, forwardScanned}
 use Rattle.scan_start.specs.Starts.{cleared}
 use Rattle.scan.specs.declared.Scanned.the-variants as scanned
-use Rattle.question.specs.Table.{questionNet, questionChecked, askedRow}
+use Rattle.question.specs.Table.{askedRow}
 use Rattle.question.specs.declared.Answer.the-variants.{None}
 use Rattle.question.specs.declared.Asked.{Asked}
 use Rattle.question.specs.declared.Asked.the-variants as asked
 use Rattle.promises.specs.Tables.{Due}
-use Rattle.promises.specs.Calls.{questionTable}
+use Rattle.question.specs.Table.{questionTable}
 use Rattle.promises.specs.Engines.{Engine}
 use Rattle.promises.specs.Demand1.{Demand1}
 use Rattle.promises.specs.Demand2.{Demand2}
@@ -70,7 +70,7 @@ refuser-breaks r = refusing-breaks (refuser r) r refl
 
 -- Net M, question (0, 4).
 denies : denier .question 2 4 M 0 4 (blank 6) .answer ≡ asked.Done None 5
-unfolding checkNet legalPrefix questionNet questionChecked rounds same round command links link mark
+unfolding checkNet legalPrefix rounds same round command links link mark
 denies = refl
 
 -- But 0 ↛ 4 is supported: an engine that answers none to that question breaks demand 2.
@@ -133,11 +133,11 @@ inventor-breaks invented d =
 
 -- One kind, forward from 0: without words the count is 1, and with word 1 it is 2; in both the first round sets all there is to set.
 count-1 : forwardScanned 0 1 [] 0 2 (blank 1) .answer ≡ scanned.Done 1
-unfolding checkNet legalPrefix scanNet scanChecked rounds same round command links link mark
+unfolding checkNet legalPrefix after rounds same round command links link mark
 count-1 = refl
 
 count-2 : forwardScanned 0 1 (1 ∷ []) 0 2 (blank 1) .answer ≡ scanned.Done 2
-unfolding checkNet legalPrefix scanNet scanChecked rounds same round command links link mark
+unfolding checkNet legalPrefix after rounds same round command links link mark
 count-2 = refl
 
 reports-1 : (invented : ℕ → ℕ → List ℕ → ℕ → ℕ → List ℕ → ℕ) → inventor invented .forwardScan 0 1 [] 0 2 (blank 1) .answer ≡ scanned.Done (invented 0 1 [] 0 2 (blank 1))

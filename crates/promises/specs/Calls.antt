@@ -16,7 +16,7 @@ use Rattle.net.specs.declared.Checked.{Checked}
 use Rattle.net.specs.declared.Checked.the-variants as checked
 use Rattle.net.specs.declared.Refusal.{Refusal}
 use Rattle.net.specs.declared.Refusal.the-variants.{TooManyNodes, TooManyWords, IllegalWord, BadQuestion, ShortBuffer}
-use Rattle.scan.specs.Scanning.{Outcome, outcome}
+use Rattle.scan.specs.Table.{Outcome, outcome}
 use Rattle.scan_start.specs.Starts.{cleared}
 use Rattle.scan.specs.declared.Scanned.the-variants as scanned
 use Rattle.question.specs.Table.{Question, question, answerAt}
@@ -33,65 +33,13 @@ use Rattle.netfile_numbers.specs.Bytes.{u32At}
 use Rattle.netfile.specs.Contents.{fileLimit, contentsOf, bodiesOf}
 use Rattle.netfile.specs.declared.Contents.{Contents}
 use Rattle.netfile.specs.declared.Contents.the-variants.{Bodies, Malformed}
-use Rattle.promises.specs.Tables.{Line, line}
-
--- Lines 1, 2 and 3, with which every call on a net begins, where `refused` is what a refusal leaves; then the lines of the operation.
-abbrev pub netLines : {A : Type 0} → (Refusal → A) → ℕ → ℕ → List ℕ → List (Line A) → List (Line A)
-netLines refused o k ws rest =
-    line 1 (ltb nodeLimit (o + k)) (refused TooManyNodes)
-    ∷ line 2 (ltb wordLimit (length ws)) (refused TooManyWords)
-    ∷ line 3 (ltb (legalPrefix o (o + k) ws) (length ws)) (refused (IllegalWord (legalPrefix o (o + k) ws)))
-    ∷ rest
+use Rattle.net.specs.Lines.{Line, line}
+use Rattle.net.specs.Table.{netLines}
 
 -- ── the check of a net ──
 
-abbrev pub netTable : ℕ → ℕ → List ℕ → List (Line Checked)
-netTable o k ws = netLines checked.Refused o k ws []
-
 abbrev pub netDone : ℕ → ℕ → List ℕ → Checked
 netDone o k ws = checked.Nodes (o + k)
-
--- ── the forward scan from x ──
-
-abbrev pub forwardTable : ℕ → ℕ → List ℕ → ℕ → ℕ → List ℕ → List (Line Outcome)
-forwardTable o k ws x budget m =
-    netLines (λ r. outcome (scanned.Refused r) m) o k ws
-    (line 4 (leb (o + k) x) (outcome (scanned.Refused BadQuestion) m)
-    ∷ line 5 (ltb (length m) (o + k)) (outcome (scanned.Refused ShortBuffer) m)
-    ∷ line 6 (not (forwardScan (o + k) ws x budget .done)) (outcome (scanned.Spent budget) (after forward ws budget (forwardStart (o + k) x) ++ drop (o + k) m))
-    ∷ [])
-
-abbrev pub forwardDone : ℕ → ℕ → List ℕ → ℕ → ℕ → List ℕ → Outcome
-forwardDone o k ws x budget m =
-    outcome (scanned.Done (forwardScan (o + k) ws x budget .count)) (forwardScan (o + k) ws x budget .marks ++ drop (o + k) m)
-
--- ── the kind scan from y ──
-
-abbrev pub kindTable : ℕ → ℕ → List ℕ → ℕ → ℕ → List ℕ → List (Line Outcome)
-kindTable o k ws y budget m =
-    netLines (λ r. outcome (scanned.Refused r) m) o k ws
-    (line 4 (leb (o + k) y || ltb y o) (outcome (scanned.Refused BadQuestion) m)
-    ∷ line 5 (ltb (length m) (o + k)) (outcome (scanned.Refused ShortBuffer) m)
-    ∷ line 6 (not (kindScan (o + k) ws y budget .done)) (outcome (scanned.Spent budget) (after kindly ws budget (kindStart (o + k) y) ++ drop (o + k) m))
-    ∷ [])
-
-abbrev pub kindDone : ℕ → ℕ → List ℕ → ℕ → ℕ → List ℕ → Outcome
-kindDone o k ws y budget m =
-    outcome (scanned.Done (kindScan (o + k) ws y budget .count)) (kindScan (o + k) ws y budget .marks ++ drop (o + k) m)
-
--- ── the question whether x is y ──
-
-abbrev pub questionTable : ℕ → ℕ → List ℕ → ℕ → ℕ → List ℕ → List (Line Question)
-questionTable o k ws x y m =
-    netLines (λ r. question (asked.Refused r) m) o k ws
-    (line 4 (leb (o + k) x || (ltb y o || leb (o + k) y)) (question (asked.Refused BadQuestion) m)
-    ∷ line 5 (ltb (length m) (o + k)) (question (asked.Refused ShortBuffer) m)
-    ∷ [])
-
-abbrev pub questionDone : ℕ → ℕ → List ℕ → ℕ → ℕ → List ℕ → Question
-questionDone o k ws x y m =
-    question (asked.Done (answerAt (getD (forwardScan (o + k) ws x (2 * (o + k)) .marks) y 0)) (forwardScan (o + k) ws x (2 * (o + k)) .count))
-    (forwardScan (o + k) ws x (2 * (o + k)) .marks ++ drop (o + k) m)
 
 -- ── the clash test ──
 

@@ -1,19 +1,23 @@
 -- Demand 1: whatever numbers and buffers it is lent, each operation on a net gives the number that is due by its table and leaves each buffer as that line says.
-use Prim.Native.Nat.{ℕ}
+use Prim.Native.Nat.{ℕ, _+_}
+use mathlib.Core.Bool.{true, false}
 use mathlib.Core.List.{List}
 use Rattle.promises.specs.Tables.{Obeys}
-use Rattle.promises.specs.Calls.{netTable, netDone, forwardTable, forwardDone, kindTable, kindDone, questionTable, questionDone, clashTable, clashDone, completionTable, completionDone, reasonTable, reasonDone, checkTable, checkDone}
+use Rattle.net.specs.Table.{netTable}
+use Rattle.scan.specs.Table.{scanTable, scanDone}
+use Rattle.question.specs.Table.{questionTable, questionDone}
+use Rattle.promises.specs.Calls.{netDone, clashTable, clashDone, completionTable, completionDone, reasonTable, reasonDone, checkTable, checkDone}
 use Rattle.promises.specs.Numbers.{checkedNumber, scanNumber, questionNumber, clashNumber, completionNumber, reasonNumber, verdictNumber}
 use Rattle.promises.specs.Engines.{Engine}
 
 pub record Demand1 (e : Engine) : Type 0 where
   pub netCheck : (o k : ℕ) (ws : List ℕ) → Obeys checkedNumber (netTable o k ws) (netDone o k ws) (e .netCheck o k ws)
   pub forwardScan : (o k : ℕ) (ws : List ℕ) (x budget : ℕ) (m : List ℕ)
-      → Obeys scanNumber (forwardTable o k ws x budget m) (forwardDone o k ws x budget m) (e .forwardScan o k ws x budget m)
+      → Obeys scanNumber (scanTable false o k ws x budget m) (scanDone false ws x budget m (o + k)) (e .forwardScan o k ws x budget m)
   pub kindScan : (o k : ℕ) (ws : List ℕ) (y budget : ℕ) (m : List ℕ)
-      → Obeys scanNumber (kindTable o k ws y budget m) (kindDone o k ws y budget m) (e .kindScan o k ws y budget m)
+      → Obeys scanNumber (scanTable true o k ws y budget m) (scanDone true ws y budget m (o + k)) (e .kindScan o k ws y budget m)
   pub question : (o k : ℕ) (ws : List ℕ) (x y : ℕ) (m : List ℕ)
-      → Obeys questionNumber (questionTable o k ws x y m) (questionDone o k ws x y m) (e .question o k ws x y m)
+      → Obeys questionNumber (questionTable o k ws x y m) (questionDone ws x y m (o + k)) (e .question o k ws x y m)
   pub clashTest : (o k : ℕ) (ws m : List ℕ) → Obeys clashNumber (clashTable o k ws m) (clashDone o k ws m) (e .clashTest o k ws m)
   pub completion : (o k : ℕ) (ws m l : List ℕ)
       → Obeys completionNumber (completionTable o k ws m l) (completionDone o k ws m l) (e .completion o k ws m l)

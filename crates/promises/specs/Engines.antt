@@ -3,7 +3,7 @@ use Prim.Native.Nat.{ℕ}
 use mathlib.Core.List.{List}
 use Rattle.net.specs.Table.{checkNet}
 use Rattle.net.specs.declared.Checked.{Checked}
-use Rattle.scan.specs.Scanning.{Outcome, forwardScanned, kindScanned}
+use Rattle.scan.specs.Table.{Outcome, forwardScanned, kindScanned}
 use Rattle.question.specs.Table.{Question, questioned}
 use Rattle.clash.specs.Table.{Clash, clashedBy}
 use Rattle.completion.specs.Table.{Completion, completedBy}

@@ -2,7 +2,7 @@
 use Prim.Native.Nat.{ℕ}
 use Rattle.net.specs.Table.{checkedRow}
 use Rattle.net.specs.declared.Checked.{Checked}
-use Rattle.scan.specs.Scanning.{Outcome, scanRow}
+use Rattle.scan.specs.Table.{Outcome, scanRow}
 use Rattle.question.specs.Table.{Question, askedRow}
 use Rattle.clash.specs.Table.{Clash, clashedRow}
 use Rattle.completion.specs.Table.{Completion, completedRow}

@@ -7,7 +7,7 @@ use Rattle.theory.specs.NetM.{M}
 use Rattle.theory.specs.Scans.{same}
 use Rattle.theory.specs.Downscan.{downscan}
 use Rattle.net.specs.Table.{Row}
-use Rattle.scan.specs.Scanning.{Outcome, forwardScanned, kindScanned, scanRow}
+use Rattle.scan.specs.Table.{Outcome, forwardScanned, kindScanned, scanRow}
 use Rattle.question.specs.Table.{Question, questioned, askedRow}
 use Rattle.clash.specs.Table.{Clash, clashedBy, clashedRow}
 use Rattle.completion.specs.Table.{Completion, completedBy, completedRow}

@@ -1,24 +1,11 @@
--- The number table of one call: its lines in the paper's order, and what it means that a number is given.
+-- What it means that a number of a call's table is given.
 use Prim.Native.Nat.{ℕ}
 use mathlib.Core.Path.{_≡_}
 use mathlib.Core.Bool.{Bool, true, false, cond, _&&_, not}
 use mathlib.Core.List.{List, [], _∷_}
 use mathlib.Core.Logic.{_↔_}
 use lib.Dec.{eqb}
-
--- A line: its number, whether its condition holds of this call, and what it gives and leaves.
-pub record Line (A : Type 0) : Type 0 where
-  pub number : ℕ
-  pub applies : Bool
-  pub outcome : A
-
-abbrev pub line : {A : Type 0} → ℕ → Bool → A → Line A
-line n t r = record { number = n; applies = t; outcome = r }
-
--- The call: the first line that applies decides; where none does, it is done.
-abbrev pub call : {A : Type 0} → List (Line A) → A → A
-call [] done = done
-call (l ∷ ls) done = cond (l .applies) (l .outcome) (call ls done)
+use Rattle.net.specs.Lines.{Line}
 
 -- No line applies.
 abbrev pub NoLine : {A : Type 0} → List (Line A) → Type 0

@@ -1,12 +1,13 @@
 -- Four worthless engines. Each differs from ours only in what makes it worthless.
 use Prim.Native.Nat.{ℕ, _+_}
+use mathlib.Core.Bool.{true, false}
 use mathlib.Core.List.{List, [], _∷_, _++_}
 use lib.Dec.{ltb}
 use lib.ListN.{length, drop}
 use Rattle.theory.specs.Marks.{round, forward, forwardStart}
 use Rattle.net.specs.declared.Refusal.{Refusal}
 use Rattle.net.specs.declared.Checked.the-variants as checked
-use Rattle.scan.specs.Scanning.{Outcome, outcome}
+use Rattle.scan.specs.Table.{Outcome, outcome}
 use Rattle.scan_start.specs.Starts.{cleared}
 use Rattle.scan.specs.declared.Scanned.the-variants as scanned
 use Rattle.question.specs.Table.{question, questioned}
@@ -21,8 +22,9 @@ use Rattle.net.specs.declared.Refusal.the-variants.{ShortBuffer}
 use Rattle.reason.specs.Table.{reason}
 use Rattle.reason.specs.declared.Reasoned.the-variants as reasonedAs
 use Rattle.reason_check.specs.declared.Verdict.the-variants as verdictAs
-use Rattle.promises.specs.Tables.{line, call}
-use Rattle.promises.specs.Calls.{netLines, forwardTable}
+use Rattle.net.specs.Lines.{line, call}
+use Rattle.net.specs.Table.{netLines}
+use Rattle.scan.specs.Table.{scanTable}
 use Rattle.promises.specs.Engines.{Engine, withForwardScan, withQuestion, withCompletion}
 
 -- One that refuses all calls, with the refusal r.
@@ -60,7 +62,7 @@ copier = withCompletion ownCompletion
 -- A forward scan that runs the first round and reports an invented count, with the right refusals, and the right outcome of a budget that is spent.
 abbrev pub oneRound : (ℕ → ℕ → List ℕ → ℕ → ℕ → List ℕ → ℕ) → ℕ → ℕ → List ℕ → ℕ → ℕ → List ℕ → Outcome
 oneRound invented o k ws x budget m =
-    call (forwardTable o k ws x budget m) (outcome (scanned.Done (invented o k ws x budget m)) (round forward ws (forwardStart (o + k) x) ++ drop (o + k) m))
+    call (scanTable false o k ws x budget m) (outcome (scanned.Done (invented o k ws x budget m)) (round forward ws (forwardStart (o + k) x) ++ drop (o + k) m))
 
 -- One that does so.
 abbrev pub inventor : (ℕ → ℕ → List ℕ → ℕ → ℕ → List ℕ → ℕ) → Engine

@@ -2,10 +2,10 @@
 use Prim.Native.Nat.{ℕ, zero, suc}
 use mathlib.Core.Path.{_≡_, refl, sym, ap, _∙_}
 use mathlib.Core.Bool.{cond}
+use mathlib.Core.Logic.{inl}
 use lib.Dec.{eqb}
 use Rattle.net.specs.Table.{Row}
-use Rattle.net.specs.declared.Refusal.the-variants.{TooManyNodes, TooManyWords, IllegalWord, BadQuestion, ShortBuffer}
-use Rattle.net.proofs.Rows.{refusalAt}
+use Rattle.net.proofs.Rows.{refusalAt, refusal-at-row, refusal-not}
 use Rattle.question.specs.Table.{askedRow}
 use Rattle.question.specs.declared.Answer.{Answer}
 use Rattle.question.specs.declared.Answer.the-variants.{None, Yes, No, Both}
@@ -28,11 +28,7 @@ asked-at-row (asked.Done None count) = refl
 asked-at-row (asked.Done Yes count) = refl
 asked-at-row (asked.Done No count) = refl
 asked-at-row (asked.Done Both count) = refl
-asked-at-row (asked.Refused TooManyNodes) = refl
-asked-at-row (asked.Refused TooManyWords) = refl
-asked-at-row (asked.Refused (IllegalWord i)) = refl
-asked-at-row (asked.Refused BadQuestion) = refl
-asked-at-row (asked.Refused ShortBuffer) = refl
+asked-at-row (asked.Refused r) = rw (refusal-not r 0 (inl refl), refusal-at-row r)
 
 -- No two answers to a question have one row.
 pub asked-row-one-to-one : (r q : Asked) → askedRow r ≡ askedRow q → r ≡ q

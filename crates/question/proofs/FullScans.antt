@@ -8,10 +8,13 @@ use borrow.Author.Tests.{le-ltb, lt-leb}
 use lib.ListN.{length, drop}
 use lib.Seq.{drop-at}
 use Rattle.theory.specs.Nets.{Net}
-use Rattle.theory.specs.Scans.{forwardScan}
+use Rattle.theory.specs.Marks.{forward, forwardStart}
+use Rattle.theory.specs.Scans.{Scan, forwardScan}
 use Rattle.theory.proofs.Inside.{Inside, legal-inside}
 use Rattle.theory.proofs.Bounds.{forward-scan-long}
-use Rattle.scan.specs.Scanning.{Outcome, outcome, ran, scanNet}
+use Rattle.net.specs.Lines.{call}
+use Rattle.scan.proofs.Outcomes.{over, scan-over}
+use Rattle.scan.specs.Table.{Outcome, outcome, scanLines, scanDone}
 use Rattle.scan.specs.declared.Scanned.{Scanned}
 use Rattle.scan.specs.declared.Scanned.the-variants.{Done, Spent, Refused}
 
@@ -29,10 +32,12 @@ count-ran : (d : Bool) (c : ℕ) → countOf (cond d (Done c) (Spent c)) ≡ c
 count-ran true c = refl
 count-ran false c = refl
 
-module _ (o n : ℕ) (ws : List ℕ) (x b : ℕ) (m : List ℕ) (h : x < n) (l : n ≤ length m) {r : Scanned} {m′ : List ℕ} (e : outcome r m′ ≡ scanNet false o n ws x b m) where
-  full-ran : outcome r m′ ≡ ran (forwardScan n ws x b) (drop n m)
-  unfolding scanNet
-  full-ran = e ∙ rw (lt-leb n x h, le-ltb (length m) n l)
+module _ (o n : ℕ) (ws : List ℕ) (x b : ℕ) (m : List ℕ) (h : x < n) (l : n ≤ length m) {r : Scanned} {m′ : List ℕ} (e : outcome r m′ ≡ call (scanLines false o ws x b m n) (scanDone false ws x b m n)) where
+  abbrev scan : Scan
+  scan = forwardScan n ws x b
+
+  full-ran : outcome r m′ ≡ over (record { done = scan .done; count = scan .count; marks = scan .marks ++ drop n m })
+  full-ran = e ∙ rw (lt-leb n x h, le-ltb (length m) n l) (sym (scan-over forward ws (forwardStart n x) b (drop n m)))
 
   pub full-count : countOf r ≡ forwardScan n ws x b .count
   full-count = ap (λ (q : Outcome). countOf (q .answer)) full-ran ∙ count-ran (forwardScan n ws x b .done) (forwardScan n ws x b .count)

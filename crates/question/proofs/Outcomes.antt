@@ -10,13 +10,12 @@ use lib.ListN.{length, getD, drop, List·getD-append}
 use Rattle.theory_laws.proofs.Booleans.{or-none-left, or-none-right}
 use Rattle.theory.specs.Nets.{Net}
 use Rattle.theory.specs.Scans.{forwardScan}
+use Rattle.net.specs.Lines.{call}
 use Rattle.net.specs.Table.{checkNet, badPair}
-use Rattle.net.specs.declared.Refusal.{Refusal}
 use Rattle.net.specs.declared.Refusal.the-variants.{BadQuestion, ShortBuffer}
-use Rattle.net.specs.declared.Checked.{Checked}
 use Rattle.net.specs.declared.Checked.the-variants as checked
 use Rattle.net.proofs.NetCheck.{check-is-net}
-use Rattle.question.specs.Table.{answerAt, Question, question, questionNet, questionChecked}
+use Rattle.question.specs.Table.{answerAt, question, questionLines, questionDone}
 use Rattle.question.specs.declared.Answer.{Answer}
 use Rattle.question.specs.declared.Asked.the-variants as asked
 use Rattle.question.proofs.FullScans.{full-long}
@@ -42,20 +41,17 @@ good-pair o n x y h =
 
 module _ (o n : ℕ) (ws : List ℕ) (x y : ℕ) (m : List ℕ) where
   -- Row 4.
-  pub ask-bad : badPair o n x y ≡ true → question (asked.Refused BadQuestion) m ≡ questionNet o n ws x y m
-  unfolding questionNet
+  pub ask-bad : badPair o n x y ≡ true → question (asked.Refused BadQuestion) m ≡ call (questionLines o x y m n) (questionDone ws x y m n)
   ask-bad h = rw h
 
   -- Row 5.
-  pub ask-short : badPair o n x y ≡ false → length m < n → question (asked.Refused ShortBuffer) m ≡ questionNet o n ws x y m
-  unfolding questionNet
+  pub ask-short : badPair o n x y ≡ false → length m < n → question (asked.Refused ShortBuffer) m ≡ call (questionLines o x y m n) (questionDone ws x y m n)
   ask-short g h = rw (g, lt-ltb (length m) n h)
 
   -- Row 0: the code scanned, was left with the marks m′, and read y's byte there.
   pub ask-done : (k : ℕ) → Net o k ws → n ≡ o + k → badPair o n x y ≡ false → n ≤ length m → (m′ : List ℕ) (count : ℕ) (a : Answer)
       → count ≡ forwardScan n ws x (2 * n) .count → m′ ≡ forwardScan n ws x (2 * n) .marks ++ drop n m → a ≡ answerAt (getD m′ y 0)
-      → question (asked.Done a count) m′ ≡ questionNet o n ws x y m
-  unfolding questionNet
+      → question (asked.Done a count) m′ ≡ call (questionLines o x y m n) (questionDone ws x y m n)
   ask-done k net e g h m′ count a c l r =
       let p = good-pair o n x y g in
       let long = full-long o k n ws net e x (p .node) in
@@ -64,13 +60,3 @@ module _ (o n : ℕ) (ws : List ℕ) (x y : ℕ) (m : List ℕ) where
     where
       done : {a b : Answer} {c d : ℕ} {p q : List ℕ} → a ≡ b → c ≡ d → p ≡ q → question (asked.Done a c) p ≡ question (asked.Done b d) q
       done e f g = λ i. record { answer = asked.Done (e i) (f i); marks = g i }
-
--- What was checked: a refusal is passed on, and a net is asked.
-module _ (o : ℕ) (ws : List ℕ) (x y : ℕ) (m : List ℕ) {net : Checked} where
-  pub ask-refused : {r : Refusal} → net ≡ checked.Refused r → question (asked.Refused r) m ≡ questionChecked o ws x y m net
-  unfolding questionChecked
-  ask-refused e = rw e
-
-  pub ask-checked : {n : ℕ} {s : Question} → net ≡ checked.Nodes n → s ≡ questionNet o n ws x y m → s ≡ questionChecked o ws x y m net
-  unfolding questionChecked
-  ask-checked e h = rw e h

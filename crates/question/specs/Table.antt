@@ -1,15 +1,14 @@
--- The outcome of a question, by the number table from top to bottom.
-use Prim.Native.Nat.{ℕ, _*_}
+-- The number table of the question whether x is y.
+use Prim.Native.Nat.{ℕ, _+_, _*_}
 use mathlib.Core.Bool.{cond}
-use mathlib.Core.List.{List, _++_}
+use mathlib.Core.List.{List, [], _∷_, _++_}
 use lib.Dec.{ltb}
 use lib.ListN.{length, getD, drop}
 use Rattle.theory.specs.Marks.{T, F, has}
 use Rattle.theory.specs.Scans.{Scan, forwardScan}
-use Rattle.net.specs.Table.{checkNet, badPair, Row, row, refusalRow}
+use Rattle.net.specs.Lines.{Line, line, call}
+use Rattle.net.specs.Table.{netLines, badPair, Row, row, refusalRow}
 use Rattle.net.specs.declared.Refusal.the-variants.{BadQuestion, ShortBuffer}
-use Rattle.net.specs.declared.Checked.{Checked}
-use Rattle.net.specs.declared.Checked.the-variants as checked
 use Rattle.question.specs.declared.Answer.{Answer}
 use Rattle.question.specs.declared.Answer.the-variants.{None, Yes, No, Both}
 use Rattle.question.specs.declared.Asked.{Asked}
@@ -27,25 +26,24 @@ pub record Question : Type 0 where
 abbrev pub question : Asked → List ℕ → Question
 question r m = record { answer = r; marks = m }
 
--- Row 0: the byte at y, the count, and the marks of the nodes; past them the bytes as they were.
+-- Lines 4 and 5 on n nodes.
+abbrev pub questionLines : ℕ → ℕ → ℕ → List ℕ → ℕ → List (Line Question)
+questionLines o x y m n =
+    line 4 (badPair o n x y) (question (asked.Refused BadQuestion) m) ∷ line 5 (ltb (length m) n) (question (asked.Refused ShortBuffer) m) ∷ []
+
+-- Line 0: the byte at y, the count, and the marks of the nodes; past them the bytes as they were. The budget is 2N.
 abbrev pub readAt : ℕ → Scan → List ℕ → Question
 readAt y s past = question (asked.Done (answerAt (getD (s .marks) y 0)) (s .count)) (s .marks ++ past)
 
--- Rows 4, 5 and 0 for a net of n nodes. The budget is 2N.
-unfoldable pub questionNet : ℕ → ℕ → List ℕ → ℕ → ℕ → List ℕ → Question
-questionNet o n ws x y m =
-    cond (badPair o n x y) (question (asked.Refused BadQuestion) m)
-    (cond (ltb (length m) n) (question (asked.Refused ShortBuffer) m)
-    (readAt y (forwardScan n ws x (2 * n)) (drop n m)))
+abbrev pub questionDone : List ℕ → ℕ → ℕ → List ℕ → ℕ → Question
+questionDone ws x y m n = readAt y (forwardScan n ws x (2 * n)) (drop n m)
 
--- Rows 1, 2 and 3 first.
-unfoldable pub questionChecked : ℕ → List ℕ → ℕ → ℕ → List ℕ → Checked → Question
-questionChecked o ws x y m (checked.Nodes n) = questionNet o n ws x y m
-questionChecked o ws x y m (checked.Refused r) = question (asked.Refused r) m
+abbrev pub questionTable : ℕ → ℕ → List ℕ → ℕ → ℕ → List ℕ → List (Line Question)
+questionTable o k ws x y m = netLines (λ r. question (asked.Refused r) m) o k ws (questionLines o x y m (o + k))
 
 -- The question whether x is y.
 abbrev pub questioned : ℕ → ℕ → List ℕ → ℕ → ℕ → List ℕ → Question
-questioned o k ws x y m = questionChecked o ws x y m (checkNet o k ws)
+questioned o k ws x y m = call (questionTable o k ws x y m) (questionDone ws x y m (o + k))
 
 -- The paper's number and values for each answer.
 abbrev pub answerNumber : Answer → ℕ

@@ -5,7 +5,8 @@ ghost use Prim.Native.Nat.{_+_, _*_, _<_, _≤_};
 ghost use lib.ListN.{length, drop};
 ghost use Rattle.theory.specs.Nets.{Net};
 ghost use Rattle.theory.specs.Scans.{forwardScan};
-ghost use Rattle.question.specs.Table.{answerAt, question, questionNet, questioned};
+ghost use Rattle.question.specs.Table.{answerAt, question, questionLines, questionDone, questionTable};
+ghost use Rattle.net.specs.Lines.{call};
 use net::Checked;
 use net::Refusal;
 use net::check_net;
@@ -63,7 +64,7 @@ fn answer_at(byte: u8) -> Answer
 
 // The question whether `x` is `y`.
 pub fn ask_question(o: u32, k: u32, words: &[u32], x: u32, y: u32, marks: &mut [u8]) -> Asked
-    ensures { λ r. ⌜ question r (now (marks .exit)) ≡ questioned o k (now (words .entry)) x y (now (marks .entry)) ⌝ }
+    ensures { λ r. ⌜ question r (now (marks .exit)) ≡ call (questionTable o k (now (words .entry)) x y (now (marks .entry))) (questionDone (now (words .entry)) x y (now (marks .entry)) (o + k)) ⌝ }
 {
     let net = check_net(o, k, words);
     match net {
@@ -76,7 +77,7 @@ pub fn ask_question(o: u32, k: u32, words: &[u32], x: u32, y: u32, marks: &mut [
 fn ask_net(o: u32, k: u32, n: usize, words: &[u32], x: u32, y: u32, marks: &mut [u8]) -> Asked
     requires net { ⌜ Net o k (now words) ⌝ }
     requires size { ⌜ n ≡ o + k ⌝ }
-    ensures { λ r. ⌜ question r (now (marks .exit)) ≡ questionNet o n (now (words .entry)) x y (now (marks .entry)) ⌝ }
+    ensures { λ r. ⌜ question r (now (marks .exit)) ≡ call (questionLines o x y (now (marks .entry)) n) (questionDone (now (words .entry)) x y (now (marks .entry)) n) ⌝ }
 {
     if is_bad_pair(o, n, x, y) {
         return Asked::Refused(Refusal::BadQuestion);

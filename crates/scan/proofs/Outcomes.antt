@@ -1,25 +1,25 @@
 -- Each outcome of a scan of a checked net, in the terms of the code.
 use Prim.Native.Nat.{ℕ, _<_, _≤_}
-use mathlib.Core.Path.{_≡_, sym, ap, _∙_}
-use mathlib.Core.Bool.{Bool, true, false, cond, _&&_, _||_}
+use mathlib.Core.Path.{_≡_, refl, sym, ap, _∙_}
+use mathlib.Core.Bool.{Bool, true, false, cond, not, _||_}
 use mathlib.Core.List.{List, _++_}
 use native.Mathlib.Omega.{arith}
 use borrow.Author.Tests.{lt-ltb, le-ltb, le-leb, lt-leb}
 use lib.Dec.{ltb, leb}
 use lib.ListN.{length, drop}
 use Rattle.theory_laws.proofs.Booleans.{or-true}
-use Rattle.theory.specs.Scans.{Scan, rounds}
+use Rattle.theory.specs.Scans.{Scan, after, rounds}
+use Rattle.theory.specs.declared.Command.{Command}
 use Rattle.theory.proofs.Inside.{Inside, legal-inside}
 use Rattle.theory.proofs.Frame.{rounds-frame}
+use Rattle.theory.proofs.Budgets.{spent-marks}
+use Rattle.net.specs.Lines.{call}
 use Rattle.net.specs.Table.{checkNet}
-use Rattle.net.specs.declared.Refusal.{Refusal}
 use Rattle.net.specs.declared.Refusal.the-variants.{BadQuestion, ShortBuffer}
-use Rattle.net.specs.declared.Checked.{Checked}
 use Rattle.net.specs.declared.Checked.the-variants.{Nodes}
-use Rattle.net.specs.declared.Checked.the-variants as checked
 use Rattle.net.proofs.NetCheck.{check-is-net}
 use Rattle.scan_round.specs.Turns.{commands}
-use Rattle.scan.specs.Scanning.{Outcome, outcome, badStart, scanNet, scanChecked}
+use Rattle.scan.specs.Table.{Outcome, outcome, badStart, scanLines, scanDone}
 use Rattle.scan_start.specs.Starts.{start}
 use Rattle.scan.specs.declared.Scanned.the-variants.{Done, Spent, Refused}
 use Rattle.scan_round.proofs.Turns.{puts}
@@ -32,19 +32,37 @@ checked-inside o k ws n e =
     (rw (t .0) (legal-inside o k ws (t .1 .legal)), rw (t .0) (t .1 .few))
 
 -- The outcome of a scan that is over.
-abbrev over : Scan → Outcome
+abbrev pub over : Scan → Outcome
 over s = outcome (cond (s .done) (Done (s .count)) (Spent (s .count))) (s .marks)
 
+-- Where its budget is spent, the marks are those after that many rounds: lines 6 and 0.
+module _ (cs : List Command) (ws m : List ℕ) (budget : ℕ) (past : List ℕ) where
+  abbrev ran : Scan
+  ran = rounds cs ws 0 budget m
+
+  pub scan-over : over (record { done = ran .done; count = ran .count; marks = ran .marks ++ past })
+      ≡ cond (not (ran .done)) (outcome (Spent budget) (after cs ws budget m ++ past)) (outcome (Done (ran .count)) (ran .marks ++ past))
+  scan-over = at (ran .done) refl
+    where
+      at : (d : Bool) → ran .done ≡ d
+          → over (record { done = d; count = ran .count; marks = ran .marks ++ past })
+          ≡ cond (not d) (outcome (Spent budget) (after cs ws budget m ++ past)) (outcome (Done (ran .count)) (ran .marks ++ past))
+      at true e = refl
+      at false e = let s = spent-marks cs ws m budget e in rw (s .0, s .1)
+
+either-way : (kind : Bool) → cond kind true true ≡ true
+either-way true = refl
+either-way false = refl
+
 module _ (kind : Bool) (o n : ℕ) (ws : List ℕ) (x b : ℕ) (m : List ℕ) where
-  bad : badStart kind o n x ≡ true → outcome (Refused BadQuestion) m ≡ scanNet kind o n ws x b m
-  unfolding scanNet
+  bad : badStart kind o n x ≡ true → outcome (Refused BadQuestion) m ≡ call (scanLines kind o ws x b m n) (scanDone kind ws x b m n)
   bad h = rw h
 
   -- Row 4: the start is no node, or it is an object in the kind scan.
-  pub scan-far : n ≤ x → outcome (Refused BadQuestion) m ≡ scanNet kind o n ws x b m
-  scan-far h = bad (ap (λ (q : Bool). q || (kind && ltb x o)) (le-leb n x h))
+  pub scan-far : n ≤ x → outcome (Refused BadQuestion) m ≡ call (scanLines kind o ws x b m n) (scanDone kind ws x b m n)
+  scan-far h = bad (rw (le-leb n x h) (either-way kind))
 
-  pub scan-object : kind ≡ true → x < o → outcome (Refused BadQuestion) m ≡ scanNet kind o n ws x b m
+  pub scan-object : kind ≡ true → x < o → outcome (Refused BadQuestion) m ≡ call (scanLines kind o ws x b m n) (scanDone kind ws x b m n)
   scan-object k h = bad (rw (k, lt-ltb x o h) (or-true (leb n x)))
 
   -- The start is good.
@@ -53,33 +71,23 @@ module _ (kind : Bool) (o n : ℕ) (ws : List ℕ) (x b : ℕ) (m : List ℕ) wh
 
   pub good-forward : x < n → kind ≡ false → Good
   unfolding Good
-  good-forward h k = rw (lt-leb n x h, k)
+  good-forward h k = rw (k, lt-leb n x h)
 
   pub good-kind : x < n → kind ≡ true → o ≤ x → Good
   unfolding Good
-  good-kind h k l = rw (lt-leb n x h, k, le-ltb x o l)
+  good-kind h k l = rw (k, lt-leb n x h, le-ltb x o l)
 
   module _ (g : Good) where
     -- Row 5.
-    pub scan-short : length m < n → outcome (Refused ShortBuffer) m ≡ scanNet kind o n ws x b m
-    unfolding scanNet Good
+    pub scan-short : length m < n → outcome (Refused ShortBuffer) m ≡ call (scanLines kind o ws x b m n) (scanDone kind ws x b m n)
+    unfolding Good
     scan-short h = rw (g, lt-ltb (length m) n h)
 
     -- Rows 0 and 6: the code scanned from the start with the bytes past the nodes behind it, and was left with the marks m₂.
     pub scan-ran : {d : Bool} {count : ℕ} {m₁ m₂ : List ℕ} → x < n → Inside n ws → n ≤ length m → m₁ ≡ start kind n x ++ drop n m
         → rounds (commands kind) ws 0 b m₁ ≡ record { done = d; count = count; marks = m₂ }
-        → outcome (cond d (Done count) (Spent count)) m₂ ≡ scanNet kind o n ws x b m
-    unfolding scanNet Good
+        → outcome (cond d (Done count) (Spent count)) m₂ ≡ call (scanLines kind o ws x b m n) (scanDone kind ws x b m n)
+    unfolding Good
     scan-ran {m₁ = m₁} l e h s r =
         let f = rounds-frame (drop n m) (commands kind) (puts 8 (omega arith) kind) ws b 0 (start kind n x) (rw (start-long n x l kind) e) in
-        rw (g, le-ltb (length m) n h) (ap over (sym r ∙ ap (rounds (commands kind) ws 0 b) s ∙ f))
-
--- What was checked: a refusal is passed on, and a net is scanned.
-module _ (kind : Bool) (o : ℕ) (ws : List ℕ) (x b : ℕ) (m : List ℕ) {net : Checked} where
-  pub scan-refused : {r : Refusal} → net ≡ checked.Refused r → outcome (Refused r) m ≡ scanChecked kind o ws x b m net
-  unfolding scanChecked
-  scan-refused e = rw e
-
-  pub scan-checked : {n : ℕ} {s : Outcome} → net ≡ Nodes n → s ≡ scanNet kind o n ws x b m → s ≡ scanChecked kind o ws x b m net
-  unfolding scanChecked
-  scan-checked e h = rw e h
+        rw (g, le-ltb (length m) n h) (ap over (sym r ∙ ap (rounds (commands kind) ws 0 b) s ∙ f) ∙ scan-over (commands kind) ws (start kind n x) b (drop n m))

@@ -1,9 +1,9 @@
 // The marker machine: the forward scan and the kind scan, each from its start within its budget.
 ghost use mathlib.Core.Path.{_≡_};
-ghost use Prim.Native.Nat.{_≤_};
+ghost use Prim.Native.Nat.{_+_, _≤_};
 ghost use Rattle.theory.proofs.Inside.{Inside};
-ghost use Rattle.scan.specs.Scanning.{outcome, scanNet, scanChecked, forwardScanned, kindScanned};
-ghost use Rattle.net.specs.Table.{checkNet};
+ghost use Rattle.scan.specs.Table.{outcome, scanLines, scanTable, scanDone, forwardScanned, kindScanned};
+ghost use Rattle.net.specs.Lines.{call};
 use net::Checked;
 use net::Refusal;
 use net::check_net;
@@ -29,7 +29,7 @@ pub fn scan_net(
 ) -> Scanned
     requires inside { ⌜ Inside n (now words) ⌝ }
     requires few { ⌜ n ≤ 1024 ⌝ }
-    ensures { λ r. ⌜ outcome r (now (marks .exit)) ≡ scanNet kind o n (now (words .entry)) x budget (now (marks .entry)) ⌝ }
+    ensures { λ r. ⌜ outcome r (now (marks .exit)) ≡ call (scanLines kind o (now (words .entry)) x budget (now (marks .entry)) n) (scanDone kind (now (words .entry)) x budget (now (marks .entry)) n) ⌝ }
 {
     let at = x as usize;
     if n <= at {
@@ -62,7 +62,7 @@ fn scan_from(
     budget: u32,
     marks: &mut [u8],
 ) -> Scanned
-    ensures { λ r. ⌜ outcome r (now (marks .exit)) ≡ scanChecked kind o (now (words .entry)) x budget (now (marks .entry)) (checkNet o k (now (words .entry))) ⌝ }
+    ensures { λ r. ⌜ outcome r (now (marks .exit)) ≡ call (scanTable kind o k (now (words .entry)) x budget (now (marks .entry))) (scanDone kind (now (words .entry)) x budget (now (marks .entry)) (o + k)) ⌝ }
 {
     let net = check_net(o, k, words);
     match net {

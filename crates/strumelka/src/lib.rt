@@ -1,7 +1,7 @@
 // What a C or a Rust program links: each operation, its answer given as a row of the number table.
 ghost use mathlib.Core.Path.{_≡_};
 ghost use Rattle.net.specs.Table.{checkNet, checkedRow};
-ghost use Rattle.scan.specs.Scanning.{forwardScanned, kindScanned, scanRow};
+ghost use Rattle.scan.specs.Table.{forwardScanned, kindScanned, scanRow};
 ghost use Rattle.question.specs.Table.{questioned, askedRow};
 ghost use Rattle.clash.specs.Table.{clashedBy, clashedRow};
 ghost use Rattle.completion.specs.Table.{completedBy, completedRow};

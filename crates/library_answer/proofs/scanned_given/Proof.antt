@@ -1,6 +1,6 @@
 -- A scan has row 0 or 6 with its count, and a refusal its own row.
 use borrow.Author.Needs.{needs}
-use Rattle.scan.specs.Scanning.{scanRow}
+use Rattle.scan.specs.Table.{scanRow}
 use Rattle.library_row.proofs.Carrying.{carry-given, carry-fits}
 use Rattle.library_answer.proofs.scanned_given.Statement.{statement}
 use Rattle.library_answer.proofs.scanned_given.Tie as tie

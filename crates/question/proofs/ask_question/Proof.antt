@@ -1,7 +1,10 @@
 -- The check's refusal is passed on, and its net is asked.
 use mathlib.Core.Path.{sym, _∙_}
 use borrow.Author.Needs.{needs}
-use Rattle.question.proofs.Outcomes.{checked-net, ask-refused, ask-checked}
+use Rattle.net.proofs.OnNet.{passed-on, gone-on}
+use Rattle.question.specs.Table.{question, questionLines, questionDone}
+use Rattle.question.specs.declared.Asked.the-variants.{Refused}
+use Rattle.question.proofs.Outcomes.{checked-net}
 use Rattle.question.proofs.ask_question.Statement.{statement}
 use Rattle.question.proofs.ask_question.Tie as tie
 
@@ -26,7 +29,8 @@ returns c =
     let net = c .before in
     let checked = net .before .before in
     let a = checked .before .before .before .args in
-    ask-refused (a .o) (a .words .now) (a .x) (a .y) (a .marks .now) (sym (checked .check-net .ensures) ∙ net .net .given .1)
+    passed-on (λ r. question (Refused r) (a .marks .now)) (a .o) (a .k) (a .words .now) (questionLines (a .o) (a .x) (a .y) (a .marks .now))
+    (questionDone (a .words .now) (a .x) (a .y) (a .marks .now)) (sym (checked .check-net .ensures) ∙ net .net .given .1)
 
 same-length : tie.Need-same-length
 same-length c = search needs
@@ -37,7 +41,8 @@ returns-2 c =
     let net = asked .before .before .before in
     let checked = net .before .before in
     let a = checked .before .before .before .args in
-    ask-checked (a .o) (a .words .now) (a .x) (a .y) (a .marks .now) (sym (checked .check-net .ensures) ∙ net .net2 .given .1) (asked .ask-net .ensures)
+    gone-on (λ r. question (Refused r) (a .marks .now)) (a .o) (a .k) (a .words .now) (questionLines (a .o) (a .x) (a .y) (a .marks .now))
+    (questionDone (a .words .now) (a .x) (a .y) (a .marks .now)) (sym (checked .check-net .ensures) ∙ net .net2 .given .1) (asked .ask-net .ensures)
 
 pub ask-question-spec : {M : Type 1} → statement M
 ask-question-spec =

@@ -1,7 +1,10 @@
 -- The check's refusal is passed on, and its net is scanned.
 use mathlib.Core.Path.{sym, _∙_}
 use borrow.Author.Needs.{needs}
-use Rattle.scan.proofs.Outcomes.{checked-inside, scan-refused, scan-checked}
+use Rattle.net.proofs.OnNet.{passed-on, gone-on}
+use Rattle.scan.specs.Table.{outcome, scanLines, scanDone}
+use Rattle.scan.specs.declared.Scanned.the-variants.{Refused}
+use Rattle.scan.proofs.Outcomes.{checked-inside}
 use Rattle.scan.proofs.scan_from.Statement.{statement}
 use Rattle.scan.proofs.scan_from.Tie as tie
 
@@ -26,7 +29,8 @@ returns c =
     let net = c .before in
     let checked = net .before .before in
     let a = checked .before .before .before .args in
-    scan-refused (a .kind) (a .o) (a .words .now) (a .x) (a .budget) (a .marks .now) (sym (checked .check-net .ensures) ∙ net .net .given .1)
+    passed-on (λ r. outcome (Refused r) (a .marks .now)) (a .o) (a .k) (a .words .now) (scanLines (a .kind) (a .o) (a .words .now) (a .x) (a .budget) (a .marks .now))
+    (scanDone (a .kind) (a .words .now) (a .x) (a .budget) (a .marks .now)) (sym (checked .check-net .ensures) ∙ net .net .given .1)
 
 same-length : tie.Need-same-length
 same-length c = search needs
@@ -37,7 +41,8 @@ returns-2 c =
     let net = ran .before .before .before in
     let checked = net .before .before in
     let a = checked .before .before .before .args in
-    scan-checked (a .kind) (a .o) (a .words .now) (a .x) (a .budget) (a .marks .now) (sym (checked .check-net .ensures) ∙ net .net2 .given .1)
+    gone-on (λ r. outcome (Refused r) (a .marks .now)) (a .o) (a .k) (a .words .now) (scanLines (a .kind) (a .o) (a .words .now) (a .x) (a .budget) (a .marks .now))
+    (scanDone (a .kind) (a .words .now) (a .x) (a .budget) (a .marks .now)) (sym (checked .check-net .ensures) ∙ net .net2 .given .1)
     (ran .scan-net .ensures)
 
 pub scan-from-spec : {M : Type 1} → statement M
