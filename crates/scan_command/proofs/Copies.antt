@@ -21,7 +21,7 @@ agree-more i old m l h =
 module _ (c : Command) (old m : List ℕ) (n : ℕ) (h : Agree n old m) where
   link-agree : (w : ℕ) (x : List ℕ) → Ends n w → link c old w x ≡ link c m w x
   unfolding link
-  link-agree w x e = rw (h (near (c .up) w) (near-in (c .up) e))
+  link-agree w x e = rw (h (near (c .«at_head») w) (near-in (c .«at_head») e))
 
   -- Links between nodes below n are tested the same against the copy and the marks.
   pub links-agree : (ws x : List ℕ) → Inside n ws → links c old ws x ≡ links c m ws x

@@ -18,8 +18,8 @@ module _ (c : Command) (old : List ℕ) (w : ℕ) (m : List ℕ) where
   follow-other s = rw (ne-eqb (parity w) (c .sign) s)
 
   -- The code found the ends `at` and `to`; its tests there said r and q; x is the marker's bit.
-  module _ {at : ℕ} {r : Bool} (s : parity w ≡ c .sign) (e : at ≡ near (c .up) w) (h : r ≡ has (c .test) (getD old at 0)) where
-    tested : has (c .test) (getD old (near (c .up) w) 0) ≡ r
+  module _ {at : ℕ} {r : Bool} (s : parity w ≡ c .sign) (e : at ≡ near (c .«at_head») w) (h : r ≡ has (c .test) (getD old at 0)) where
+    tested : has (c .test) (getD old (near (c .«at_head») w) 0) ≡ r
     tested = rw e at (sym h)
 
     -- Without the tested marker a link does nothing.
@@ -27,7 +27,7 @@ module _ (c : Command) (old : List ℕ) (w : ℕ) (m : List ℕ) where
     unfolding link
     follow-off f = rw (eq-eqb (parity w) (c .sign) s, tested ∙ f)
 
-    module _ (f : r ≡ true) {to : ℕ} {q : Bool} (i : to ≡ far (c .up) w) (g : q ≡ has (c .put) (getD m to 0)) where
+    module _ (f : r ≡ true) {to : ℕ} {q : Bool} (i : to ≡ far (c .«at_head») w) (g : q ≡ has (c .put) (getD m to 0)) where
       fired : link c old w m ≡ mark (c .put) to m
       unfolding link
       fired = rw (eq-eqb (parity w) (c .sign) s, tested ∙ f, i)

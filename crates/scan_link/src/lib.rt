@@ -26,18 +26,26 @@ fn bit_of(j: u8) -> u8
     1 << j
 }
 
-// The end of a link that a command tests: the tail, or where `up` holds the head.
-fn near_of(up: bool, word: u32) -> usize
-    ensures { λ r. ⌜ r ≡ near up word ⌝ }
+// The end of a link that a command tests: the tail, or where `at_head` holds the head.
+fn near_of(at_head: bool, word: u32) -> usize
+    ensures { λ r. ⌜ r ≡ near «at_head» word ⌝ }
 {
-    if up { head_of(word) } else { tail_of(word) }
+    if at_head {
+        head_of(word)
+    } else {
+        tail_of(word)
+    }
 }
 
 // The other end, where it puts its marker.
-fn far_of(up: bool, word: u32) -> usize
-    ensures { λ r. ⌜ r ≡ far up word ⌝ }
+fn far_of(at_head: bool, word: u32) -> usize
+    ensures { λ r. ⌜ r ≡ far «at_head» word ⌝ }
 {
-    if up { tail_of(word) } else { head_of(word) }
+    if at_head {
+        tail_of(word)
+    } else {
+        head_of(word)
+    }
 }
 
 // One link, tested against the marks `old`; whether it set a mark.
@@ -50,17 +58,17 @@ pub fn follow(c: Command, old: &[u8; 1024], n: usize, word: u32, marks: &mut [u8
     ensures { λ r. ⌜ Set r (now (marks .entry)) (now (marks .exit)) ⌝ }
 {
     let sign = c.sign;
-    let up = c.up;
+    let at_head = c.at_head;
     let test = c.test;
     let put = c.put;
     if word % 2 != sign {
         return false;
     }
-    let near = near_of(up, word);
+    let near = near_of(at_head, word);
     if !has_mark(old[near], test) {
         return false;
     }
-    let far = far_of(up, word);
+    let far = far_of(at_head, word);
     let byte = marks[far];
     if has_mark(byte, put) {
         return false;

@@ -20,56 +20,56 @@ const U: u8 = 2;
 // The commands, named by sign, by the end that gets a marker and by the marker tested at the other end: "is" hands that marker on, "is not" puts F.
 const IS_TO_TAIL_T: Command = Command {
     sign: 0,
-    up: true,
+    at_head: true,
     test: T,
     put: T,
 };
 
 const IS_TO_HEAD_T: Command = Command {
     sign: 0,
-    up: false,
+    at_head: false,
     test: T,
     put: T,
 };
 
 const IS_TO_TAIL_F: Command = Command {
     sign: 0,
-    up: true,
+    at_head: true,
     test: F,
     put: F,
 };
 
 const IS_TO_HEAD_U: Command = Command {
     sign: 0,
-    up: false,
+    at_head: false,
     test: U,
     put: U,
 };
 
 const NOT_TO_HEAD_T: Command = Command {
     sign: 1,
-    up: false,
+    at_head: false,
     test: T,
     put: F,
 };
 
 const NOT_TO_TAIL_T: Command = Command {
     sign: 1,
-    up: true,
+    at_head: true,
     test: T,
     put: F,
 };
 
 const NOT_TO_HEAD_U: Command = Command {
     sign: 1,
-    up: false,
+    at_head: false,
     test: U,
     put: F,
 };
 
 const NOT_TO_TAIL_U: Command = Command {
     sign: 1,
-    up: true,
+    at_head: true,
     test: U,
     put: F,
 };

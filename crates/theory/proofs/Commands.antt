@@ -37,7 +37,7 @@ module _ (j k t v : ℕ) (m : List ℕ) (l : t < length m) where
 
 -- The link puts marker j at node v.
 abbrev pub hits : Command → List ℕ → ℕ → ℕ → ℕ → Bool
-hits c old j v w = fires c old w && (eqb (far (c .up) w) v && eqb j (c .put))
+hits c old j v w = fires c old w && (eqb (far (c .«at_head») w) v && eqb j (c .put))
 
 -- Some word passes a test.
 unfoldable pub any : (ℕ → Bool) → List ℕ → Bool
@@ -45,13 +45,13 @@ any p [] = false
 any p (w ∷ ws) = p w || any p ws
 
 module _ (c : Command) where
-  pub link-at : (old : List ℕ) (w : ℕ) (m : List ℕ) (j v : ℕ) → far (c .up) w < length m
+  pub link-at : (old : List ℕ) (w : ℕ) (m : List ℕ) (j v : ℕ) → far (c .«at_head») w < length m
       → has j (getD (link c old w m) v 0) ≡ (has j (getD m v 0) || hits c old j v w)
   unfolding link
   link-at old w m j v l = at (fires c old w)
     where
       t : ℕ
-      t = far (c .up) w
+      t = far (c .«at_head») w
 
       at : (p : Bool) → has j (getD (cond p (mark (c .put) t m) m) v 0) ≡ (has j (getD m v 0) || (p && (eqb t v && eqb j (c .put))))
       at false = sym (or-false (has j (getD m v 0)))
@@ -61,8 +61,8 @@ module _ (c : Command) where
   unfolding link
   link-length old w m = at (fires c old w)
     where
-      at : (p : Bool) → length (cond p (mark (c .put) (far (c .up) w) m) m) ≡ length m
-      at true = mark-length (c .put) (far (c .up) w) m
+      at : (p : Bool) → length (cond p (mark (c .put) (far (c .«at_head») w) m) m) ≡ length m
+      at true = mark-length (c .put) (far (c .«at_head») w) m
       at false = refl
 
   pub links-at : (old ws m : List ℕ) (n j v : ℕ) → Inside n ws → n ≤ length m
@@ -70,7 +70,7 @@ module _ (c : Command) where
   unfolding links any
   links-at old [] m n j v e l = sym (or-false (has j (getD m v 0)))
   links-at old (w ∷ ws) m n j v e l =
-      let t : far (c .up) w < n = far-in (c .up) (inside-first e) in
+      let t : far (c .«at_head») w < n = far-in (c .«at_head») (inside-first e) in
       links-at old ws (link c old w m) n j v (inside-rest e) (omega (arith, link-length old w m))
       ∙ ap (λ (q : Bool). q || any (hits c old j v) ws) (link-at old w m j v (omega arith))
       ∙ or-assoc (has j (getD m v 0)) (hits c old j v w) (any (hits c old j v) ws)

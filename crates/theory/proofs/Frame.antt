@@ -23,10 +23,10 @@ module _ (past : List ℕ) where
   module _ (c : Command) (old : List ℕ) where
     link-frame : (w : ℕ) (m : List ℕ) → Ends (length old) w → Ends (length m) w → link c (old ++ past) w (m ++ past) ≡ link c old w m ++ past
     unfolding link
-    link-frame w m d e = rw (List·getD-append old past 0 (near (c .up) w) (near-in (c .up) d)) (at (fires c old w))
+    link-frame w m d e = rw (List·getD-append old past 0 (near (c .«at_head») w) (near-in (c .«at_head») d)) (at (fires c old w))
       where
-        at : (p : Bool) → cond p (mark (c .put) (far (c .up) w) (m ++ past)) (m ++ past) ≡ cond p (mark (c .put) (far (c .up) w) m) m ++ past
-        at true = mark-frame (c .put) (far (c .up) w) m (far-in (c .up) e)
+        at : (p : Bool) → cond p (mark (c .put) (far (c .«at_head») w) (m ++ past)) (m ++ past) ≡ cond p (mark (c .put) (far (c .«at_head») w) m) m ++ past
+        at true = mark-frame (c .put) (far (c .«at_head») w) m (far-in (c .«at_head») e)
         at false = refl
 
     links-frame : (ws m : List ℕ) → Inside (length old) ws → length m ≡ length old → links c (old ++ past) ws (m ++ past) ≡ links c old ws m ++ past

@@ -95,10 +95,10 @@ module _ (n h : ℕ) (c : Command) (k : c .put < h) where
   link-step old w m e r = at (fires c old w)
     where
       t : ℕ
-      t = far (c .up) w
+      t = far (c .«at_head») w
 
       at : (p : Bool) → Step n h m (cond p (mark (c .put) t m) m)
-      at true = mark-step n h (c .put) k m t (has (c .put) (getD m t 0)) refl (far-in (c .up) e) r
+      at true = mark-step n h (c .put) k m t (has (c .put) (getD m t 0)) refl (far-in (c .«at_head») e) r
       at false = step-none n h m
 
   pub links-step : (old ws m : List ℕ) → Inside n ws → n ≤ length m → Step n h m (links c old ws m)

@@ -18,11 +18,11 @@ pub record Ends (n w : ℕ) : Type 0 where
 abbrev pub Inside : ℕ → List ℕ → Type 0
 Inside n ws = (w : ℕ) → List·Memᴰ w ws → Ends n w
 
-pub near-in : (up : Bool) {n w : ℕ} → Ends n w → near up w < n
+pub near-in : (atHead : Bool) {n w : ℕ} → Ends n w → near atHead w < n
 near-in true e = e .head-in
 near-in false e = e .tail-in
 
-pub far-in : (up : Bool) {n w : ℕ} → Ends n w → far up w < n
+pub far-in : (atHead : Bool) {n w : ℕ} → Ends n w → far atHead w < n
 far-in true e = e .tail-in
 far-in false e = e .head-in
 

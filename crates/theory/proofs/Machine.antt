@@ -28,7 +28,7 @@ Over L s true x y = L y x s
 
 -- A set of marks that a command adds nothing to.
 abbrev pub Follows : Statements → (ℕ → ℕ → Type 0) → Command → Type 0
-Follows L P c = (x y : ℕ) (s : Sign) → number s ≡ c .sign → Over L s (c .up) x y → P (c .test) x → P (c .put) y
+Follows L P c = (x y : ℕ) (s : Sign) → number s ≡ c .sign → Over L s (c .«at_head») x y → P (c .test) x → P (c .put) y
 
 abbrev pub Every : (Command → Type 0) → List Command → Type 0
 Every Q [] = Unit {0}
@@ -72,22 +72,22 @@ module _ (n : ℕ) (ws : List ℕ) (e : Inside n ws) where
         or-split (has j (getD m v 0)) (any (hits c m j v) ws) (sym (command-at c ws m n j v e r) ∙ a) (i j v)
         (λ b.
         let (w, h, d) = any-some (hits c m j v) ws b in
-        let fire = and-left (fires c m w) (eqb (far (c .up) w) v && eqb j (c .put)) d in
-        let ends = and-right (fires c m w) (eqb (far (c .up) w) v && eqb j (c .put)) d in
-        let at : far (c .up) w ≡ v = eqb-true _ _ (and-left (eqb (far (c .up) w) v) (eqb j (c .put)) ends) in
-        let put : j ≡ c .put = eqb-true _ _ (and-right (eqb (far (c .up) w) v) (eqb j (c .put)) ends) in
-        let sg : parity w ≡ c .sign = eqb-true _ _ (and-left (eqb (parity w) (c .sign)) (has (c .test) (getD m (near (c .up) w) 0)) fire) in
-        let on = and-right (eqb (parity w) (c .sign)) (has (c .test) (getD m (near (c .up) w) 0)) fire in
+        let fire = and-left (fires c m w) (eqb (far (c .«at_head») w) v && eqb j (c .put)) d in
+        let ends = and-right (fires c m w) (eqb (far (c .«at_head») w) v && eqb j (c .put)) d in
+        let at : far (c .«at_head») w ≡ v = eqb-true _ _ (and-left (eqb (far (c .«at_head») w) v) (eqb j (c .put)) ends) in
+        let put : j ≡ c .put = eqb-true _ _ (and-right (eqb (far (c .«at_head») w) v) (eqb j (c .put)) ends) in
+        let sg : parity w ≡ c .sign = eqb-true _ _ (and-left (eqb (parity w) (c .sign)) (has (c .test) (getD m (near (c .«at_head») w) 0)) fire) in
+        let on = and-right (eqb (parity w) (c .sign)) (has (c .test) (getD m (near (c .«at_head») w) 0)) fire in
         subst (λ (i : ℕ). P i v) (sym put) (subst (λ (u : ℕ). P (c .put) u) at
-        (f (near (c .up) w) (far (c .up) w) (signAt (w % 2)) (sign-of w ∙ sg) (over w h (c .up)) (i (c .test) (near (c .up) w) on))))
+        (f (near (c .«at_head») w) (far (c .«at_head») w) (signAt (w % 2)) (sign-of w ∙ sg) (over w h (c .«at_head»)) (i (c .test) (near (c .«at_head») w) on))))
 
     pub command-keeps : Within (At (command c ws m)) m
     command-keeps j v a = command-at c ws m n j v e r ∙ ap (λ (q : Bool). q || any (hits c m j v) ws) a
 
     -- A link at whose tested end the marker stands puts its marker.
-    fire : (x y : ℕ) (s : Sign) → number s ≡ c .sign → Over (Links ws) s (c .up) x y → At m (c .test) x → At (command c ws m) (c .put) y
+    fire : (x y : ℕ) (s : Sign) → number s ≡ c .sign → Over (Links ws) s (c .«at_head») x y → At m (c .test) x → At (command c ws m) (c .put) y
     fire x y s q l t =
-        let (w, h, g, p, z) = seen s (c .up) x y l in
+        let (w, h, g, p, z) = seen s (c .«at_head») x y l in
         let hit : hits c m (c .put) y w ≡ true = rw (z, p, t, eq-eqb (parity w) (c .sign) (g ∙ q), eq-eqb y y refl, eq-eqb (c .put) (c .put) refl) in
         command-at c ws m n (c .put) y e r ∙ ap (λ (b : Bool). has (c .put) (getD m y 0) || b) (any-of (hits c m (c .put) y) ws w h hit) ∙ or-true (has (c .put) (getD m y 0))
 

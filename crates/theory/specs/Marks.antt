@@ -42,18 +42,18 @@ mark j v m = set m v (with j (getD m v 0))
 
 -- The end of a link that a command tests, and the end where it puts its marker.
 abbrev pub near : Bool → ℕ → ℕ
-near up w = cond up (headOf w) (tailOf w)
+near atHead w = cond atHead (headOf w) (tailOf w)
 
 abbrev pub far : Bool → ℕ → ℕ
-far up w = cond up (tailOf w) (headOf w)
+far atHead w = cond atHead (tailOf w) (headOf w)
 
 -- A link of the command's sign with its marker at the tested end.
 abbrev pub fires : Command → List ℕ → ℕ → Bool
-fires c old w = eqb (parity w) (c .sign) && has (c .test) (getD old (near (c .up) w) 0)
+fires c old w = eqb (parity w) (c .sign) && has (c .test) (getD old (near (c .«at_head») w) 0)
 
 -- What one link does to the marks m, tested against the marks old.
 unfoldable pub link : Command → List ℕ → ℕ → List ℕ → List ℕ
-link c old w m = cond (fires c old w) (mark (c .put) (far (c .up) w) m) m
+link c old w m = cond (fires c old w) (mark (c .put) (far (c .«at_head») w) m) m
 
 -- What all links do to the marks m, each tested against the marks old.
 unfoldable pub links : Command → List ℕ → List ℕ → List ℕ → List ℕ
@@ -71,10 +71,10 @@ round (c ∷ cs) ws m = round cs ws (command c ws m)
 
 -- Links of the sign with marker p at the tail get marker q at the head; and the other way round.
 abbrev pub toHead : ℕ → ℕ → ℕ → Command
-toHead s p q = record { sign = s; up = false; test = p; put = q }
+toHead s p q = record { sign = s; «at_head» = false; test = p; put = q }
 
 abbrev pub toTail : ℕ → ℕ → ℕ → Command
-toTail s p q = record { sign = s; up = true; test = p; put = q }
+toTail s p q = record { sign = s; «at_head» = true; test = p; put = q }
 
 -- The four commands of a round of the forward scan.
 abbrev pub forward : List Command

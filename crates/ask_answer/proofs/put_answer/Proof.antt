@@ -7,12 +7,6 @@ use borrow.Author.Needs.{needs}
 use Rattle.ask_answer.proofs.put_answer.Statement.{statement}
 use Rattle.ask_answer.proofs.put_answer.Tie as tie
 
-enum-known-asked : tie.Need-enum-known-asked
-enum-known-asked c = search needs
-
-put-word-requires : tie.Need-put-word-requires
-put-word-requires c κs = search needs
-
 sub-put-number : tie.Need-sub-put-number
 sub-put-number c =
     let w = c .before .before in
@@ -24,9 +18,6 @@ part-put-number-start c =
     let w = c .before .before in
     let r = room (w .put-word .ensures) (omega (arith, word-room (w .before .before .before .asked .given .0 .0))) in
     omega arith
-
-part-put-number-end : tie.Need-part-put-number-end
-part-put-number-end c = search needs
 
 put-number-requires : tie.Need-put-number-requires
 put-number-requires c κs =
@@ -40,27 +31,6 @@ add-result c =
     let r = room (w .put-word .ensures) (omega (arith, word-room (w .before .before .before .asked .given .0 .0))) in
     omega (arith, c .before .before .put-number .ensures .size, number-room (w .before .before .before .asked .given .0 .1 .0) 10)
 
-enum-known-asked-2 : tie.Need-enum-known-asked-2
-enum-known-asked-2 c = search needs
-
-slice-aggregate-put-bytes : tie.Need-slice-aggregate-put-bytes
-slice-aggregate-put-bytes c = search needs
-
-put-bytes-requires : tie.Need-put-bytes-requires
-put-bytes-requires c κs = search needs
-
-sub-put-number-2 : tie.Need-sub-put-number-2
-sub-put-number-2 c = search needs
-
-part-put-number-start-2 : tie.Need-part-put-number-start-2
-part-put-number-start-2 c = search needs
-
-part-put-number-end-2 : tie.Need-part-put-number-end-2
-part-put-number-end-2 c = search needs
-
-number-of-requires : tie.Need-number-of-requires
-number-of-requires c κs = search needs
-
 put-number-requires-2 : tie.Need-put-number-requires-2
 put-number-requires-2 c κs =
     let w = c .before .before .before .before in
@@ -73,16 +43,10 @@ add-result-2 c =
     let r = room (w .put-bytes .ensures) (omega arith) in
     omega (arith, c .before .before .put-number2 .ensures .size, number-room (c .before .before .before .number-of .result) 10)
 
-same-length : tie.Need-same-length
-same-length c = search needs
-
 returns : tie.Need-returns
 returns c =
     let w = c .before .before .before .before .before .before in
     wrote-as (done-fields (w .before .before .before .asked .given .1)) (wrote-more (w .put-word .ensures) (omega (arith, word-room (w .before .before .before .asked .given .0 .0))) (c .before .before .put-number .ensures))
-
-same-length-2 : tie.Need-same-length-2
-same-length-2 c = search needs
 
 returns-2 : tie.Need-returns-2
 returns-2 c =
@@ -93,23 +57,23 @@ pub put-answer-spec : {M : Type 1} → statement M
 put-answer-spec =
     tie.close
     (tie.spec
-    enum-known-asked
-    put-word-requires
+    (search needs)
+    (search needs)
     sub-put-number
     part-put-number-start
-    part-put-number-end
+    (search needs)
     put-number-requires
     add-result
-    enum-known-asked-2
-    slice-aggregate-put-bytes
-    put-bytes-requires
-    sub-put-number-2
-    part-put-number-start-2
-    part-put-number-end-2
-    number-of-requires
+    (search needs)
+    (search needs)
+    (search needs)
+    (search needs)
+    (search needs)
+    (search needs)
+    (search needs)
     put-number-requires-2
     add-result-2
-    same-length
+    (search needs)
     returns
-    same-length-2
+    (search needs)
     returns-2)

@@ -40,9 +40,6 @@ sub-put-number c = omega (arith, room (c .before .before .put-number .ensures) (
 part-put-number-start : tie.Need-part-put-number-start
 part-put-number-start c = omega (arith, room (c .before .before .put-number .ensures) (one-fits (c .before .before)))
 
-part-put-number-end : tie.Need-part-put-number-end
-part-put-number-end c = search needs
-
 put-number-requires-2 : tie.Need-put-number-requires-2
 put-number-requires-2 c κs =
     let start = c .before .before .before .before .before .before in
@@ -57,9 +54,6 @@ sub-put-answer c = omega (arith, room (two-written (c .before .before)) (two-fit
 part-put-answer-start : tie.Need-part-put-answer-start
 part-put-answer-start c = omega (arith, room (two-written (c .before .before)) (two-fit (c .before .before)))
 
-part-put-answer-end : tie.Need-part-put-answer-end
-part-put-answer-end c = search needs
-
 put-answer-requires : tie.Need-put-answer-requires
 put-answer-requires c κs =
     let start = c .before .before .before .before .before .before .before .before .before .before in
@@ -69,9 +63,6 @@ add-at-2 : tie.Need-add-at-2
 add-at-2 c =
     let start = c .before .before .before .before .before .before .before .before .before .before .before .before .before in
     omega (arith, two-fit (c .before .before .before .before .before .before), two-written (c .before .before .before .before .before .before) .size, c .before .before .put-answer .ensures .size, answer-room (start .args .asked))
-
-same-length : tie.Need-same-length
-same-length c = search needs
 
 returns : tie.Need-returns
 returns c =
@@ -86,13 +77,13 @@ put-line-spec =
     put-number-requires
     sub-put-number
     part-put-number-start
-    part-put-number-end
+    (search needs)
     put-number-requires-2
     add-at
     sub-put-answer
     part-put-answer-start
-    part-put-answer-end
+    (search needs)
     put-answer-requires
     add-at-2
-    same-length
+    (search needs)
     returns)

@@ -13,9 +13,6 @@ use borrow.Author.Needs.{needs}
 use Rattle.ask_line.proofs.put_report.Statement.{statement}
 use Rattle.ask_line.proofs.put_report.Tie as tie
 
-put-bytes-requires : tie.Need-put-bytes-requires
-put-bytes-requires c κs = search needs
-
 -- The word fits, and the word and the first number.
 one-fits : (c : tie.After-put-bytes) → length (c .before .before .before .before .args .word .now ++ 32 ∷ []) ≤ length (c .before .before .before .before .args .text .now)
 one-fits c = let start = c .before .before .before .before in omega (arith, word-space (start .args .word .now))
@@ -38,9 +35,6 @@ sub-put-number c = omega (arith, room (c .before .before .put-bytes .ensures) (o
 part-put-number-start : tie.Need-part-put-number-start
 part-put-number-start c = omega (arith, room (c .before .before .put-bytes .ensures) (one-fits (c .before .before)))
 
-part-put-number-end : tie.Need-part-put-number-end
-part-put-number-end c = search needs
-
 put-number-requires : tie.Need-put-number-requires
 put-number-requires c κs =
     let start = c .before .before .before .before .before .before .before in
@@ -55,9 +49,6 @@ sub-put-number-2 c = omega (arith, room (two-written (c .before .before)) (two-f
 part-put-number-start-2 : tie.Need-part-put-number-start-2
 part-put-number-start-2 c = omega (arith, room (two-written (c .before .before)) (two-fit (c .before .before)))
 
-part-put-number-end-2 : tie.Need-part-put-number-end-2
-part-put-number-end-2 c = search needs
-
 put-number-requires-2 : tie.Need-put-number-requires-2
 put-number-requires-2 c κs =
     let start = c .before .before .before .before .before .before .before .before .before .before .before in
@@ -68,9 +59,6 @@ add-at-2 c =
     let start = c .before .before .before .before .before .before .before .before .before .before .before .before .before .before in
     omega (arith, two-fit (c .before .before .before .before .before .before), two-written (c .before .before .before .before .before .before) .size, c .before .before .put-number2 .ensures .size, number-room (start .args .value) 10)
 
-same-length : tie.Need-same-length
-same-length c = search needs
-
 returns : tie.Need-returns
 returns c =
     let start = c .before .before .before .before .before .before .before .before .before .before .before .before .before .before in
@@ -80,16 +68,16 @@ pub put-report-spec : {M : Type 1} → statement M
 put-report-spec =
     tie.close
     (tie.spec
-    put-bytes-requires
+    (search needs)
     sub-put-number
     part-put-number-start
-    part-put-number-end
+    (search needs)
     put-number-requires
     add-at
     sub-put-number-2
     part-put-number-start-2
-    part-put-number-end-2
+    (search needs)
     put-number-requires-2
     add-at-2
-    same-length
+    (search needs)
     returns)

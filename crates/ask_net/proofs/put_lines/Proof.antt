@@ -55,9 +55,6 @@ u16-at-requires-2 c κs = omega arith
 slice-aggregate-ask-question : tie.Need-slice-aggregate-ask-question Inv-loop μ-loop
 slice-aggregate-ask-question c = omega arith
 
-ask-question-requires : tie.Need-ask-question-requires Inv-loop μ-loop
-ask-question-requires c κs = search needs
-
 sub-put-line : tie.Need-sub-put-line Inv-loop μ-loop
 sub-put-line c = omega (arith, left-over (c .before .before .before .before .before))
 
@@ -118,7 +115,7 @@ put-lines-spec =
     add-u16-at
     u16-at-requires-2
     slice-aggregate-ask-question
-    ask-question-requires
+    (search needs)
     sub-put-line
     part-put-line-start
     part-put-line-end

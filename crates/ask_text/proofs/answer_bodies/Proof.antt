@@ -6,21 +6,6 @@ use borrow.Author.Needs.{needs}
 use Rattle.ask_text.proofs.answer_bodies.Statement.{statement}
 use Rattle.ask_text.proofs.answer_bodies.Tie as tie
 
-slice-aggregate-read-words : tie.Need-slice-aggregate-read-words
-slice-aggregate-read-words c = search needs
-
-read-words-requires : tie.Need-read-words-requires
-read-words-requires c κs = search needs
-
-u32-at-requires : tie.Need-u32-at-requires
-u32-at-requires c κs = search needs
-
-u32-at-requires-2 : tie.Need-u32-at-requires-2
-u32-at-requires-2 c κs = search needs
-
-array-share-prefix-words : tie.Need-array-share-prefix-words
-array-share-prefix-words c = search needs
-
 slice-aggregate-answer-net : tie.Need-slice-aggregate-answer-net
 slice-aggregate-answer-net c = words-read _ _ (c .before .before .before .before .read-words .last .1 .0) _ (c .before .before .before .before .read-words .ensures)
 
@@ -28,9 +13,6 @@ answer-net-requires : tie.Need-answer-net-requires
 answer-net-requires c κs =
     let read = words-read _ _ (c .before .before .before .before .before .read-words .last .1 .0) _ (c .before .before .before .before .before .read-words .ensures) in
     (omega arith, (omega arith, omega arith))
-
-same-length : tie.Need-same-length
-same-length c = search needs
 
 returns : tie.Need-returns
 returns c =
@@ -41,12 +23,12 @@ pub answer-bodies-spec : {M : Type 1} → statement M
 answer-bodies-spec =
     tie.close
     (tie.spec
-    slice-aggregate-read-words
-    read-words-requires
-    u32-at-requires
-    u32-at-requires-2
-    array-share-prefix-words
+    (search needs)
+    (search needs)
+    (search needs)
+    (search needs)
+    (search needs)
     slice-aggregate-answer-net
     answer-net-requires
-    same-length
+    (search needs)
     returns)

@@ -9,15 +9,6 @@ returns c =
     let a = c .before .before .before .args in
     clash-short (a .o) (a .k) (a .n) (a .words .now) (a .marks .now) (c .if1 .taken)
 
-search-clash-requires : tie.Need-search-clash-requires
-search-clash-requires c κs = search needs
-
-clear-requires : tie.Need-clear-requires
-clear-requires c κs = search needs
-
-same-length : tie.Need-same-length
-same-length c = search needs
-
 returns-2 : tie.Need-returns-2
 returns-2 c =
     let cleared = c .before .before in
@@ -28,4 +19,4 @@ returns-2 c =
     (searched .search-clash .result) (searched .search-clash .ensures .0) (searched .search-clash .ensures .1 .0) (cleared .clear .ensures)
 
 pub clash-net-spec : {M : Type 1} → statement M
-clash-net-spec = tie.close (tie.spec returns search-clash-requires clear-requires same-length returns-2)
+clash-net-spec = tie.close (tie.spec returns (λ c κs. search needs) (λ c κs. search needs) (λ c. search needs) returns-2)

@@ -6,15 +6,6 @@ use Rattle.clash.proofs.Outcomes.{clash-refused, clash-checked}
 use Rattle.clash.proofs.find_clash.Statement.{statement}
 use Rattle.clash.proofs.find_clash.Tie as tie
 
-check-net-requires : tie.Need-check-net-requires
-check-net-requires c κs = search needs
-
-enum-known-net : tie.Need-enum-known-net
-enum-known-net c = search needs
-
-enum-known-net-2 : tie.Need-enum-known-net-2
-enum-known-net-2 c = search needs
-
 clash-net-requires : tie.Need-clash-net-requires
 clash-net-requires c κs =
     let net = c .before .before in
@@ -29,9 +20,6 @@ returns c =
     let a = checked .before .before .before .args in
     clash-refused (a .o) (a .k) (a .words .now) (a .marks .now) (sym (checked .check-net .ensures) ∙ net .net .given .1)
 
-same-length : tie.Need-same-length
-same-length c = search needs
-
 returns-2 : tie.Need-returns-2
 returns-2 c =
     let searched = c .before .before in
@@ -44,10 +32,10 @@ pub find-clash-spec : {M : Type 1} → statement M
 find-clash-spec =
     tie.close
     (tie.spec
-    check-net-requires
-    enum-known-net
-    enum-known-net-2
+    (search needs)
+    (search needs)
+    (search needs)
     clash-net-requires
     returns
-    same-length
+    (search needs)
     returns-2)

@@ -17,20 +17,11 @@ abbrev μ-loop : tie.MeasureT-loop
 loop-holds : tie.Need-loop-holds Inv-loop μ-loop
 loop-holds c = (c .pre .0, refl)
 
-shared-slice-read-byte : tie.Need-shared-slice-read-byte Inv-loop μ-loop
-shared-slice-read-byte c = search needs
-
 returns : tie.Need-returns Inv-loop μ-loop
 returns c =
     let l = c .before .before .before .loop in
     let a = c .before .before .before .before .args in
     sym (l .inv .1 ∙ both-stop (a .marks .now) (l .y) (a .n) (omega arith) (c .if1 .taken))
-
-add-y : tie.Need-add-y Inv-loop μ-loop
-add-y c = search needs
-
-loop-less : tie.Need-loop-less Inv-loop μ-loop
-loop-less c = search needs
 
 loop-again : tie.Need-loop-again Inv-loop μ-loop
 loop-again c =
@@ -51,9 +42,9 @@ first-both-spec =
     Inv-loop
     μ-loop
     loop-holds
-    shared-slice-read-byte
+    (search needs)
     returns
-    add-y
-    loop-less
+    (search needs)
+    (search needs)
     loop-again
     returns-2)

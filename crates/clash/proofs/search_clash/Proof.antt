@@ -35,9 +35,6 @@ first-both-requires c κs =
     let s = at .before .before .before in
     (omega (arith, s .pre .1 .0), omega (arith, scanned .full-scan .kept .1 .1 .1 .1 .1 .0, at .loop .inv .1, s .pre .1 .1))
 
-cast-t15 : tie.Need-cast-t15 Inv-loop μ-loop
-cast-t15 c = search needs
-
 same-length : tie.Need-same-length Inv-loop μ-loop
 same-length c =
     let scanned = c .before .before .before .before .before in
@@ -62,12 +59,6 @@ returns c =
         scanned .full-scan .kept .1 .1 .1 .1 .1 .0 ∙ at .loop .inv .1,
       ),
     )
-
-add-x : tie.Need-add-x Inv-loop μ-loop
-add-x c = search needs
-
-loop-less : tie.Need-loop-less Inv-loop μ-loop
-loop-less c = search needs
 
 loop-again : tie.Need-loop-again Inv-loop μ-loop
 loop-again c =
@@ -107,11 +98,11 @@ search-clash-spec =
     loop-holds
     full-scan-requires
     first-both-requires
-    cast-t15
+    (search needs)
     same-length
     returns
-    add-x
-    loop-less
+    (search needs)
+    (search needs)
     loop-again
     same-length-2
     returns-2)

@@ -10,15 +10,6 @@ returns c =
     let a = c .before .before .before .before .args in
     complete-unmarked (a .o) (a .k) (a .n) (a .words .now) (a .marks .now) (a .list .now) (c .if1 .taken)
 
-count-rows-requires : tie.Need-count-rows-requires
-count-rows-requires c κs = search needs
-
-clear-requires : tie.Need-clear-requires
-clear-requires c κs = search needs
-
-same-length : tie.Need-same-length
-same-length c = search needs
-
 returns-2 : tie.Need-returns-2
 returns-2 c =
     let cleared = c .before .before in
@@ -44,15 +35,6 @@ write-rows-requires c κs =
       ),
     )
 
-clear-requires-2 : tie.Need-clear-requires-2
-clear-requires-2 c κs = search needs
-
-same-length-2 : tie.Need-same-length-2
-same-length-2 c = search needs
-
-same-length-3 : tie.Need-same-length-3
-same-length-3 c = search needs
-
 returns-3 : tie.Need-returns-3
 returns-3 c =
     let cleared = c .before .before in
@@ -70,12 +52,12 @@ complete-checked-spec =
     tie.close
     (tie.spec
     returns
-    count-rows-requires
-    clear-requires
-    same-length
+    (λ c κs. search needs)
+    (λ c κs. search needs)
+    (λ c. search needs)
     returns-2
     write-rows-requires
-    clear-requires-2
-    same-length-2
-    same-length-3
+    (λ c κs. search needs)
+    (λ c. search needs)
+    (λ c. search needs)
     returns-3)

@@ -6,15 +6,6 @@ use Rattle.completion.proofs.Outcomes.{complete-refused, complete-check
 use Rattle.completion.proofs.complete_net.Statement.{statement}
 use Rattle.completion.proofs.complete_net.Tie as tie
 
-check-net-requires : tie.Need-check-net-requires
-check-net-requires c κs = search needs
-
-enum-known-net : tie.Need-enum-known-net
-enum-known-net c = search needs
-
-enum-known-net-2 : tie.Need-enum-known-net-2
-enum-known-net-2 c = search needs
-
 complete-checked-requires : tie.Need-complete-checked-requires
 complete-checked-requires c κs =
     let net = c .before .before .before in
@@ -29,12 +20,6 @@ returns c =
     let a = checked .before .before .before .before .args in
     complete-refused (a .o) (a .k) (a .words .now) (a .marks .now) (a .list .now) (sym (checked .check-net .ensures) ∙ net .net .given .1)
 
-same-length : tie.Need-same-length
-same-length c = search needs
-
-same-length-2 : tie.Need-same-length-2
-same-length-2 c = search needs
-
 returns-2 : tie.Need-returns-2
 returns-2 c =
     let done = c .before .before .before .before in
@@ -47,11 +32,11 @@ pub complete-net-spec : {M : Type 1} → statement M
 complete-net-spec =
     tie.close
     (tie.spec
-    check-net-requires
-    enum-known-net
-    enum-known-net-2
+    (search needs)
+    (search needs)
+    (search needs)
     complete-checked-requires
     returns
-    same-length
-    same-length-2
+    (search needs)
+    (search needs)
     returns-2)

@@ -18,24 +18,6 @@ abbrev μ-loop : tie.MeasureT-loop
 loop-holds : tie.Need-loop-holds Inv-loop μ-loop
 loop-holds c = (c .pre .0, omega arith, omega arith)
 
-shared-slice-read-byte : tie.Need-shared-slice-read-byte Inv-loop μ-loop
-shared-slice-read-byte c = search needs
-
-add-size : tie.Need-add-size Inv-loop μ-loop
-add-size c = search needs
-
-cast-size : tie.Need-cast-size Inv-loop μ-loop
-cast-size c = search needs
-
-add-size-2 : tie.Need-add-size-2 Inv-loop μ-loop
-add-size-2 c = search needs
-
-add-y : tie.Need-add-y Inv-loop μ-loop
-add-y c = search needs
-
-loop-less : tie.Need-loop-less Inv-loop μ-loop
-loop-less c = search needs
-
 loop-again : tie.Need-loop-again Inv-loop μ-loop
 loop-again c =
     let at = c .before .before in
@@ -55,11 +37,11 @@ count-row-spec =
     Inv-loop
     μ-loop
     loop-holds
-    shared-slice-read-byte
-    add-size
-    cast-size
-    add-size-2
-    add-y
-    loop-less
+    (search needs)
+    (search needs)
+    (search needs)
+    (search needs)
+    (search needs)
+    (search needs)
     loop-again
     returns)

@@ -6,23 +6,11 @@ use Rattle.completion_cell.proofs.Cells.{cell-length, write-both, write
 use Rattle.completion_cell.proofs.write_cell.Statement.{statement}
 use Rattle.completion_cell.proofs.write_cell.Tie as tie
 
-mul-word : tie.Need-mul-word
-mul-word c = search needs
-
-mul-word-2 : tie.Need-mul-word-2
-mul-word-2 c = search needs
-
-add-word : tie.Need-add-word
-add-word c = search needs
-
 slice-write-list : tie.Need-slice-write-list
 slice-write-list c =
     let s = c .before in
     let a = s .args in
     omega (arith, s .pre .2, cell-length (a .x) (a .y) (a .byte), c .if1 .taken)
-
-add-list : tie.Need-add-list
-add-list c = search needs
 
 slice-write-list-2 : tie.Need-slice-write-list-2
 slice-write-list-2 c =
@@ -30,17 +18,11 @@ slice-write-list-2 c =
     let a = s .args in
     simp length-set (omega (arith, s .pre .2, cell-length (a .x) (a .y) (a .byte), c .before .if1 .taken, c .if2 .taken))
 
-same-length : tie.Need-same-length
-same-length c = search needs
-
 returns : tie.Need-returns
 returns c =
     let s = c .before .before in
     let a = s .args in
     write-both (a .x) (a .y) (a .byte) (a .list .now) (s .pre .2) (c .before .if1 .taken) (c .if2 .taken)
-
-same-length-2 : tie.Need-same-length-2
-same-length-2 c = search needs
 
 returns-2 : tie.Need-returns-2
 returns-2 c =
@@ -48,17 +30,11 @@ returns-2 c =
     let a = s .args in
     write-yes (a .x) (a .y) (a .byte) (a .list .now) (s .pre .2) (c .before .if1 .taken) (c .if2 .left)
 
-add-list-2 : tie.Need-add-list-2
-add-list-2 c = search needs
-
 slice-write-list-3 : tie.Need-slice-write-list-3
 slice-write-list-3 c =
     let s = c .before .before in
     let a = s .args in
     omega (arith, s .pre .2, cell-length (a .x) (a .y) (a .byte), c .if3 .taken)
-
-same-length-3 : tie.Need-same-length-3
-same-length-3 c = search needs
 
 returns-3 : tie.Need-returns-3
 returns-3 c =
@@ -76,18 +52,18 @@ pub write-cell-spec : {M : Type 1} → statement M
 write-cell-spec =
     tie.close
     (tie.spec
-    mul-word
-    mul-word-2
-    add-word
+    (search needs)
+    (search needs)
+    (search needs)
     slice-write-list
-    add-list
+    (search needs)
     slice-write-list-2
-    same-length
+    (search needs)
     returns
-    same-length-2
+    (search needs)
     returns-2
-    add-list-2
+    (search needs)
     slice-write-list-3
-    same-length-3
+    (search needs)
     returns-3
     returns-4)

@@ -33,12 +33,6 @@ loop-holds c =
     let e = row-none (s .args .x) (s .args .marks .now) (s .args .o) in
     (omega arith, s .pre .0, refl, ap length (sym e), ap (λ q. over q (s .args .list .now)) (sym e))
 
-shared-slice-read-byte : tie.Need-shared-slice-read-byte Inv-loop μ-loop
-shared-slice-read-byte c = search needs
-
-cast-write-cell : tie.Need-cast-write-cell Inv-loop μ-loop
-cast-write-cell c = search needs
-
 mul-write-cell : tie.Need-mul-write-cell Inv-loop μ-loop
 mul-write-cell c = omega (arith, room (c .before))
 
@@ -61,12 +55,6 @@ add-at : tie.Need-add-at Inv-loop μ-loop
 add-at c =
     let called = c .before .before in
     omega (arith, room (called .before .before .before), called .write-cell .ensures .0)
-
-add-y : tie.Need-add-y Inv-loop μ-loop
-add-y c = search needs
-
-loop-less : tie.Need-loop-less Inv-loop μ-loop
-loop-less c = search needs
 
 loop-again : tie.Need-loop-again Inv-loop μ-loop
 loop-again c =
@@ -99,16 +87,16 @@ write-row-spec =
     Inv-loop
     μ-loop
     loop-holds
-    shared-slice-read-byte
-    cast-write-cell
+    (search needs)
+    (search needs)
     mul-write-cell
     sub-write-cell
     part-write-cell-start
     part-write-cell-end
     write-cell-requires
     add-at
-    add-y
-    loop-less
+    (search needs)
+    (search needs)
     loop-again
     same-length
     returns)

@@ -68,12 +68,6 @@ count-row-requires c κs =
 add-size : tie.Need-add-size Inv-loop μ-loop
 add-size c = omega (arith, few c, c .before .before .before .before .before .before .before .loop .inv .3, c .before .before .before .before .before .before .loop-test .taken)
 
-add-x : tie.Need-add-x Inv-loop μ-loop
-add-x c = search needs
-
-loop-less : tie.Need-loop-less Inv-loop μ-loop
-loop-less c = search needs
-
 loop-again : tie.Need-loop-again Inv-loop μ-loop
 loop-again c =
     let scanned = c .before .before .before .before in
@@ -110,8 +104,8 @@ count-rows-spec =
     full-scan-requires
     count-row-requires
     add-size
-    add-x
-    loop-less
+    (search needs)
+    (search needs)
     loop-again
     same-length
     returns)

@@ -98,12 +98,6 @@ add-at c =
     let fits : at .loop .at + called .write-row .result < 2 ^ 64 = omega (arith, sum, at .loop .inv .3, at .before .before .before .before .good .1 .1 .1 .1 .1 .0) in
     record { fits = fits }
 
-add-x : tie.Need-add-x Inv-loop μ-loop
-add-x c = search needs
-
-loop-less : tie.Need-loop-less Inv-loop μ-loop
-loop-less c = search needs
-
 loop-again : tie.Need-loop-again Inv-loop μ-loop
 loop-again c =
     let called = c .before .before in
@@ -156,8 +150,8 @@ write-rows-spec =
     part-write-row-end
     write-row-requires
     add-at
-    add-x
-    loop-less
+    (search needs)
+    (search needs)
     loop-again
     same-length
     same-length-2

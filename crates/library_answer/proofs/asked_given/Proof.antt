@@ -8,18 +8,6 @@ use Rattle.library_row.proofs.Carrying.{carry-given, carry-fits}
 use Rattle.library_answer.proofs.asked_given.Statement.{statement}
 use Rattle.library_answer.proofs.asked_given.Tie as tie
 
-enum-known-asked : tie.Need-enum-known-asked
-enum-known-asked c = search needs
-
-answer-number-requires : tie.Need-answer-number-requires
-answer-number-requires c κs = search needs
-
-row-of-requires : tie.Need-row-of-requires
-row-of-requires c κs = search needs
-
-enum-known-asked-2 : tie.Need-enum-known-asked-2
-enum-known-asked-2 c = search needs
-
 refusal-given-requires : tie.Need-refusal-given-requires
 refusal-given-requires c κs = carry-fits askedRow (c .before .asked2 .given .1) (c .before .before .before .pre)
 
@@ -36,10 +24,10 @@ pub asked-given-spec : {M : Type 1} → statement M
 asked-given-spec =
     tie.close
     (tie.spec
-    enum-known-asked
-    answer-number-requires
-    row-of-requires
-    enum-known-asked-2
+    (search needs)
+    (search needs)
+    (search needs)
+    (search needs)
     refusal-given-requires
     returns
     returns-2)

@@ -6,26 +6,11 @@ use Rattle.library_row.proofs.Carrying.{carry-given, carry-fits}
 use Rattle.library_answer.proofs.completed_given.Statement.{statement}
 use Rattle.library_answer.proofs.completed_given.Tie as tie
 
-enum-known-completed : tie.Need-enum-known-completed
-enum-known-completed c = search needs
-
 cast-row-of : tie.Need-cast-row-of
 cast-row-of c = omega (arith, carry-fits completedRow (c .before .completed .given .1) (c .before .before .before .pre) .first)
 
-row-of-requires : tie.Need-row-of-requires
-row-of-requires c κs = search needs
-
-enum-known-completed-2 : tie.Need-enum-known-completed-2
-enum-known-completed-2 c = search needs
-
 cast-row-of-2 : tie.Need-cast-row-of-2
 cast-row-of-2 c = omega (arith, carry-fits completedRow (c .before .completed2 .given .1) (c .before .before .before .pre) .first)
-
-row-of-requires-2 : tie.Need-row-of-requires-2
-row-of-requires-2 c κs = search needs
-
-enum-known-completed-3 : tie.Need-enum-known-completed-3
-enum-known-completed-3 c = search needs
 
 refusal-given-requires : tie.Need-refusal-given-requires
 refusal-given-requires c κs = carry-fits completedRow (c .before .completed3 .given .1) (c .before .before .before .pre)
@@ -43,13 +28,13 @@ pub completed-given-spec : {M : Type 1} → statement M
 completed-given-spec =
     tie.close
     (tie.spec
-    enum-known-completed
+    (search needs)
     cast-row-of
-    row-of-requires
-    enum-known-completed-2
+    (search needs)
+    (search needs)
     cast-row-of-2
-    row-of-requires-2
-    enum-known-completed-3
+    (search needs)
+    (search needs)
     refusal-given-requires
     returns
     returns-2

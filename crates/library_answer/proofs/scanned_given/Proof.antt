@@ -5,21 +5,6 @@ use Rattle.library_row.proofs.Carrying.{carry-given, carry-fits}
 use Rattle.library_answer.proofs.scanned_given.Statement.{statement}
 use Rattle.library_answer.proofs.scanned_given.Tie as tie
 
-enum-known-scanned : tie.Need-enum-known-scanned
-enum-known-scanned c = search needs
-
-row-of-requires : tie.Need-row-of-requires
-row-of-requires c κs = search needs
-
-enum-known-scanned-2 : tie.Need-enum-known-scanned-2
-enum-known-scanned-2 c = search needs
-
-row-of-requires-2 : tie.Need-row-of-requires-2
-row-of-requires-2 c κs = search needs
-
-enum-known-scanned-3 : tie.Need-enum-known-scanned-3
-enum-known-scanned-3 c = search needs
-
 refusal-given-requires : tie.Need-refusal-given-requires
 refusal-given-requires c κs = carry-fits scanRow (c .before .scanned3 .given .1) (c .before .before .before .pre)
 
@@ -36,11 +21,11 @@ pub scanned-given-spec : {M : Type 1} → statement M
 scanned-given-spec =
     tie.close
     (tie.spec
-    enum-known-scanned
-    row-of-requires
-    enum-known-scanned-2
-    row-of-requires-2
-    enum-known-scanned-3
+    (search needs)
+    (search needs)
+    (search needs)
+    (search needs)
+    (search needs)
     refusal-given-requires
     returns
     returns-2

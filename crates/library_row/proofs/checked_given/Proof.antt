@@ -6,17 +6,8 @@ use Rattle.library_row.proofs.Carrying.{carry-given, carry-fits}
 use Rattle.library_row.proofs.checked_given.Statement.{statement}
 use Rattle.library_row.proofs.checked_given.Tie as tie
 
-enum-known-checked : tie.Need-enum-known-checked
-enum-known-checked c = search needs
-
 cast-row-of : tie.Need-cast-row-of
 cast-row-of c = omega (arith, carry-fits checkedRow (c .before .checked .given .1) (c .before .before .before .pre) .first)
-
-row-of-requires : tie.Need-row-of-requires
-row-of-requires c κs = search needs
-
-enum-known-checked-2 : tie.Need-enum-known-checked-2
-enum-known-checked-2 c = search needs
 
 refusal-given-requires : tie.Need-refusal-given-requires
 refusal-given-requires c κs = carry-fits checkedRow (c .before .checked2 .given .1) (c .before .before .before .pre)
@@ -31,10 +22,10 @@ pub checked-given-spec : {M : Type 1} → statement M
 checked-given-spec =
     tie.close
     (tie.spec
-    enum-known-checked
+    (search needs)
     cast-row-of
-    row-of-requires
-    enum-known-checked-2
+    (search needs)
+    (search needs)
     refusal-given-requires
     returns
     returns-2)

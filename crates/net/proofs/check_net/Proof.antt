@@ -6,9 +6,6 @@ use Rattle.net.proofs.NetCheck.{many-nodes-exactly, many-words-exactly,
 use Rattle.net.proofs.check_net.Statement.{statement}
 use Rattle.net.proofs.check_net.Tie as tie
 
-add-n : tie.Need-add-n
-add-n c = search needs
-
 returns : tie.Need-returns
 returns c =
     let a = c .before .before .args in
@@ -18,9 +15,6 @@ returns-2 : tie.Need-returns-2
 returns-2 c =
     let a = c .before .before .before .args in
     sym (many-words-exactly (a .o) (a .k) (a .words .now) .1 (omega arith, omega arith))
-
-first-illegal-requires : tie.Need-first-illegal-requires
-first-illegal-requires c κs = search needs
 
 returns-3 : tie.Need-returns-3
 returns-3 c =
@@ -33,4 +27,4 @@ returns-4 c =
     ends-nodes (a .o) (a .k) (a .words .now) (omega arith) (omega arith) (c .before .first-illegal .ensures) (omega arith)
 
 pub check-net-spec : {M : Type 1} → statement M
-check-net-spec = tie.close (tie.spec add-n returns returns-2 first-illegal-requires returns-3 returns-4)
+check-net-spec = tie.close (tie.spec (search needs) returns returns-2 (search needs) returns-3 returns-4)

@@ -16,29 +16,11 @@ Inv-loop o n words i₀ i = (i ≤ length words) × (legalPrefix o n words ≡ i
 abbrev μ-loop : tie.MeasureT-loop
 μ-loop o n words i₀ i = length words - i
 
-loop-holds : tie.Need-loop-holds Inv-loop μ-loop
-loop-holds c = search needs
-
-mul-is-legal : tie.Need-mul-is-legal Inv-loop μ-loop
-mul-is-legal c = search needs
-
-shared-slice-read-is-legal : tie.Need-shared-slice-read-is-legal Inv-loop μ-loop
-shared-slice-read-is-legal c = search needs
-
-is-legal-requires : tie.Need-is-legal-requires Inv-loop μ-loop
-is-legal-requires c κs = search needs
-
 returns : tie.Need-returns Inv-loop μ-loop
 returns c =
     let at = c .before .before .before .before in
     let a = at .before .before .args in
     omega (arith, prefix-stop (a .o) (a .n) (a .words .now) (at .loop .i) (omega arith) (sym (c .before .is-legal .ensures) ∙ not-true _ (c .if1 .taken)))
-
-add-i : tie.Need-add-i Inv-loop μ-loop
-add-i c = search needs
-
-loop-less : tie.Need-loop-less Inv-loop μ-loop
-loop-less c = search needs
 
 loop-again : tie.Need-loop-again Inv-loop μ-loop
 loop-again c =
@@ -58,12 +40,12 @@ first-illegal-spec =
     (tie.spec
     Inv-loop
     μ-loop
-    loop-holds
-    mul-is-legal
-    shared-slice-read-is-legal
-    is-legal-requires
+    (search needs)
+    (search needs)
+    (search needs)
+    (search needs)
     returns
-    add-i
-    loop-less
+    (search needs)
+    (search needs)
     loop-again
     returns-2)

@@ -4,9 +4,6 @@ use mathlib.Core.Path.{sym, _∙_}
 use Rattle.net.proofs.is_bad_statement.Statement.{statement}
 use Rattle.net.proofs.is_bad_statement.Tie as tie
 
-is-bad-pair-requires : tie.Need-is-bad-pair-requires
-is-bad-pair-requires c κs = search needs
-
 returns : tie.Need-returns
 returns c = simp (sym (c .before .is-bad-pair .ensures) ∙ c .if1 .taken)
 
@@ -14,4 +11,4 @@ returns-2 : tie.Need-returns-2
 returns-2 c = simp (sym (c .before .is-bad-pair .ensures) ∙ c .if1 .left)
 
 pub is-bad-statement-spec : {M : Type 1} → statement M
-is-bad-statement-spec = tie.close (tie.spec is-bad-pair-requires returns returns-2)
+is-bad-statement-spec = tie.close (tie.spec (search needs) returns returns-2)

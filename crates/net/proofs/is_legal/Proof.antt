@@ -6,12 +6,6 @@ use Rattle.theory.specs.Words.{tailOf, headOf}
 use Rattle.net.proofs.is_legal.Statement.{statement}
 use Rattle.net.proofs.is_legal.Tie as tie
 
-tail-of-requires : tie.Need-tail-of-requires
-tail-of-requires c κs = search needs
-
-head-of-requires : tie.Need-head-of-requires
-head-of-requires c κs = search needs
-
 returns : tie.Need-returns
 returns c =
     let a = c .before .before .before .args in
@@ -28,4 +22,4 @@ returns-3 c =
     simp (lt-ltb (tailOf (a .word)) (a .n) (omega arith), le-leb (a .o) (headOf (a .word)) (omega arith), c .before .before .head-of .ensures)
 
 pub is-legal-spec : {M : Type 1} → statement M
-is-legal-spec = tie.close (tie.spec tail-of-requires head-of-requires returns returns-2 returns-3)
+is-legal-spec = tie.close (tie.spec (search needs) (search needs) returns returns-2 returns-3)

@@ -6,17 +6,8 @@ use borrow.Author.Needs.{needs}
 use Rattle.netfile_numbers.proofs.u16_at.Statement.{statement}
 use Rattle.netfile_numbers.proofs.u16_at.Tie as tie
 
-shared-slice-read-result : tie.Need-shared-slice-read-result
-shared-slice-read-result c = search needs
-
 cast-result : tie.Need-cast-result
 cast-result c = omega (arith, c .shared-slice-known .given (c .before .args .at))
-
-add-result : tie.Need-add-result
-add-result c = search needs
-
-shared-slice-read-result-2 : tie.Need-shared-slice-read-result-2
-shared-slice-read-result-2 c = search needs
 
 -- Both bytes are below 256.
 bytes : (c : tie.After-shared-slice-known2) → (getD (c .before .before .args .bytes .now) (c .before .before .args .at) 0 < 256)
@@ -42,10 +33,10 @@ pub u16-at-spec : {M : Type 1} → statement M
 u16-at-spec =
     tie.close
     (tie.spec
-    shared-slice-read-result
+    (search needs)
     cast-result
-    add-result
-    shared-slice-read-result-2
+    (search needs)
+    (search needs)
     cast-result-2
     mul-result
     add-result-2

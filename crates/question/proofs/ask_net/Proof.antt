@@ -6,9 +6,6 @@ use Rattle.question.proofs.Outcomes.{good-pair, ask-bad, ask-short, ask
 use Rattle.question.proofs.ask_net.Statement.{statement}
 use Rattle.question.proofs.ask_net.Tie as tie
 
-is-bad-pair-requires : tie.Need-is-bad-pair-requires
-is-bad-pair-requires c κs = search needs
-
 returns : tie.Need-returns
 returns c =
     let a = c .before .before .before .before .args in
@@ -36,12 +33,6 @@ slice-read-byte c =
     let good = good-pair (a .o) (a .n) (a .x) (a .y) (sym (tested .before .is-bad-pair .ensures) ∙ tested .if1 .left) in
     omega (arith, good .high, scanned .before .before .if2 .left, scanned .full-scan .kept .1 .1 .1 .1 .1 .0)
 
-answer-at-requires : tie.Need-answer-at-requires
-answer-at-requires c κs = search needs
-
-same-length : tie.Need-same-length
-same-length c = search needs
-
 returns-3 : tie.Need-returns-3
 returns-3 c =
     let scanned = c .before .before .before .before in
@@ -56,11 +47,11 @@ pub ask-net-spec : {M : Type 1} → statement M
 ask-net-spec =
     tie.close
     (tie.spec
-    is-bad-pair-requires
+    (search needs)
     returns
     returns-2
     full-scan-requires
     slice-read-byte
-    answer-at-requires
-    same-length
+    (search needs)
+    (search needs)
     returns-3)

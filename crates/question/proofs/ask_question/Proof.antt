@@ -8,15 +8,6 @@ use Rattle.question.proofs.Outcomes.{checked-net}
 use Rattle.question.proofs.ask_question.Statement.{statement}
 use Rattle.question.proofs.ask_question.Tie as tie
 
-check-net-requires : tie.Need-check-net-requires
-check-net-requires c κs = search needs
-
-enum-known-net : tie.Need-enum-known-net
-enum-known-net c = search needs
-
-enum-known-net-2 : tie.Need-enum-known-net-2
-enum-known-net-2 c = search needs
-
 ask-net-requires : tie.Need-ask-net-requires
 ask-net-requires c κs =
     let net = c .before .before in
@@ -32,9 +23,6 @@ returns c =
     passed-on (λ r. question (Refused r) (a .marks .now)) (a .o) (a .k) (a .words .now) (questionLines (a .o) (a .x) (a .y) (a .marks .now))
     (questionDone (a .words .now) (a .x) (a .y) (a .marks .now)) (sym (checked .check-net .ensures) ∙ net .net .given .1)
 
-same-length : tie.Need-same-length
-same-length c = search needs
-
 returns-2 : tie.Need-returns-2
 returns-2 c =
     let asked = c .before .before in
@@ -48,10 +36,10 @@ pub ask-question-spec : {M : Type 1} → statement M
 ask-question-spec =
     tie.close
     (tie.spec
-    check-net-requires
-    enum-known-net
-    enum-known-net-2
+    (search needs)
+    (search needs)
+    (search needs)
     ask-net-requires
     returns
-    same-length
+    (search needs)
     returns-2)

@@ -5,26 +5,11 @@ use Rattle.reason.proofs.NetReason.{checked-net, net-refused, net-check
 use Rattle.reason.proofs.find_reason.Statement.{statement}
 use Rattle.reason.proofs.find_reason.Tie as tie
 
-check-net-requires : tie.Need-check-net-requires
-check-net-requires c κs = search needs
-
-enum-known-net : tie.Need-enum-known-net
-enum-known-net c = search needs
-
 reason-net-requires : tie.Need-reason-net-requires
 reason-net-requires c κs =
     let a = c .before .before .before .before .before .before .before .before .before .args in
     let g = c .before .before .before .net .given in
     checked-net (a .o) (a .k) (a .words .now) (g .0 .0) (sym (c .before .before .before .before .before .check-net .ensures) ∙ g .1)
-
-enum-known-net-2 : tie.Need-enum-known-net-2
-enum-known-net-2 c = search needs
-
-same-length : tie.Need-same-length
-same-length c = search needs
-
-same-length-2 : tie.Need-same-length-2
-same-length-2 c = search needs
 
 returns : tie.Need-returns
 returns c =
@@ -42,11 +27,11 @@ pub find-reason-spec : {M : Type 1} → statement M
 find-reason-spec =
     tie.close
     (tie.spec
-    check-net-requires
-    enum-known-net
+    (search needs)
+    (search needs)
     reason-net-requires
-    enum-known-net-2
-    same-length
-    same-length-2
+    (search needs)
+    (search needs)
+    (search needs)
     returns
     returns-2)

@@ -8,24 +8,15 @@ use Rattle.reason.proofs.NetReason.{net-bad, good-nodes, net-short, fro
 use Rattle.reason.proofs.reason_net.Statement.{statement}
 use Rattle.reason.proofs.reason_net.Tie as tie
 
-is-bad-statement-requires : tie.Need-is-bad-statement-requires
-is-bad-statement-requires c κs = search needs
-
 returns : tie.Need-returns
 returns c =
     let a = c .before .before .before .before .before .args in
     net-bad (a .o) (a .n) (a .words .now) (a .x) (a .y) (a .sign) (a .scratch .now) (a .list .now) (c .before .is-bad-statement .ensures) (c .if1 .taken)
 
-add-size : tie.Need-add-size
-add-size c = search needs
-
 returns-2 : tie.Need-returns-2
 returns-2 c =
     let a = c .before .before .before .before .before .before .args in
     net-short (a .o) (a .n) (a .words .now) (a .x) (a .y) (a .sign) (a .scratch .now) (a .list .now) (c .before .before .is-bad-statement .ensures) (c .before .if1 .left) (c .if2 .taken)
-
-slice-relend-prefix-find-distances : tie.Need-slice-relend-prefix-find-distances
-slice-relend-prefix-find-distances c = search needs
 
 slice-aggregate-find-distances : tie.Need-slice-aggregate-find-distances
 slice-aggregate-find-distances c =
@@ -38,9 +29,6 @@ find-distances-requires c κs =
     let a = s .args in
     let nodes = good-nodes (a .o) (a .n) (a .words .now) (a .x) (a .y) (a .sign) (a .scratch .now) (a .list .now) (c .before .before .before .is-bad-statement .ensures) (c .before .before .if1 .left) in
     (s .pre, (nodes .1, length-take-le (a .n + a .n) (a .scratch .now) (c .before .if2 .left)))
-
-slice-reshare-prefix-write-reason : tie.Need-slice-reshare-prefix-write-reason
-slice-reshare-prefix-write-reason c = search needs
 
 slice-aggregate-write-reason : tie.Need-slice-aggregate-write-reason
 slice-aggregate-write-reason c =
@@ -57,12 +45,6 @@ write-reason-requires c κs =
     let nodes = good-nodes (a .o) (a .n) (a .words .now) (a .x) (a .y) (a .sign) (a .scratch .now) (a .list .now) (c .before .before .before .before .before .before .before .before .is-bad-statement .ensures) (c .before .before .before .before .before .before .before .if1 .left) in
     (s .pre, (front-length (a .n) (signAt (a .sign)) (a .words .now) (a .y) (a .scratch .now) b (f .ensures), (front-leads (a .n) (signAt (a .sign)) (a .words .now) (a .y) (a .scratch .now) b (f .ensures) (s .pre) (nodes .1), nodes .0)))
 
-same-length : tie.Need-same-length
-same-length c = search needs
-
-same-length-2 : tie.Need-same-length-2
-same-length-2 c = search needs
-
 returns-3 : tie.Need-returns-3
 returns-3 c =
     let a = c .before .before .before .before .before .before .before .before .before .before .before .before .before .before .before .args in
@@ -74,16 +56,16 @@ pub reason-net-spec : {M : Type 1} → statement M
 reason-net-spec =
     tie.close
     (tie.spec
-    is-bad-statement-requires
+    (search needs)
     returns
-    add-size
+    (search needs)
     returns-2
-    slice-relend-prefix-find-distances
+    (search needs)
     slice-aggregate-find-distances
     find-distances-requires
-    slice-reshare-prefix-write-reason
+    (search needs)
     slice-aggregate-write-reason
     write-reason-requires
-    same-length
-    same-length-2
+    (search needs)
+    (search needs)
     returns-3)

@@ -6,17 +6,8 @@ use Rattle.reason.proofs.Written.{headed}
 use Rattle.reason.proofs.write_head.Statement.{statement}
 use Rattle.reason.proofs.write_head.Tie as tie
 
-slice-write-list : tie.Need-slice-write-list
-slice-write-list c = search needs
-
 slice-write-list-2 : tie.Need-slice-write-list-2
 slice-write-list-2 c = simp length-set (omega (arith, c .pre))
-
-slice-write-list-3 : tie.Need-slice-write-list-3
-slice-write-list-3 c = search needs
-
-same-length : tie.Need-same-length
-same-length c = search needs
 
 returns : tie.Need-returns
 returns c =
@@ -25,4 +16,4 @@ returns c =
 
 pub write-head-spec : {M : Type 1} → statement M
 write-head-spec =
-    tie.close (tie.spec slice-write-list slice-write-list-2 slice-write-list-3 same-length returns)
+    tie.close (tie.spec (λ c. search needs) slice-write-list-2 (λ c. search needs) (λ c. search needs) returns)

@@ -9,12 +9,6 @@ use Rattle.reason.proofs.Written.{count-most, rest-room, from-unsupport
 use Rattle.reason.proofs.write_reason.Statement.{statement}
 use Rattle.reason.proofs.write_reason.Tie as tie
 
-mul-far : tie.Need-mul-far
-mul-far c = search needs
-
-shared-slice-read-far : tie.Need-shared-slice-read-far
-shared-slice-read-far c = search needs
-
 returns : tie.Need-returns
 returns c =
     let s = c .before .before .before .before .before in
@@ -36,15 +30,6 @@ returns-2 c =
     let s = c .before .before .before .before .before .before in
     let a = s .args in
     from-short (a .n) (signAt (a .sign)) (a .words .now) (a .x) (a .places .now) (a .list .now) (omega (arith, s .pre .1 .0, s .pre .1 .1 .1)) (c .before .if1 .left) (c .if2 .taken)
-
-sub-write-nodes : tie.Need-sub-write-nodes
-sub-write-nodes c = search needs
-
-part-write-nodes-start : tie.Need-part-write-nodes-start
-part-write-nodes-start c = search needs
-
-part-write-nodes-end : tie.Need-part-write-nodes-end
-part-write-nodes-end c = search needs
 
 write-nodes-requires : tie.Need-write-nodes-requires
 write-nodes-requires c κs =
@@ -92,15 +77,6 @@ cast-write-head-2 c =
     let most = count-most (a .n) (signAt (a .sign)) (a .words .now) (a .x) (a .places .now) (a .list .now) (omega (arith, s .pre .1 .0, s .pre .1 .1 .1)) (c .before .before .write-nodes .ensures .0) in
     omega arith
 
-cast-write-head-3 : tie.Need-cast-write-head-3
-cast-write-head-3 c = search needs
-
-write-head-requires : tie.Need-write-head-requires
-write-head-requires c κs = search needs
-
-same-length : tie.Need-same-length
-same-length c = search needs
-
 returns-3 : tie.Need-returns-3
 returns-3 c =
     let s = c .before .before .before .before .before .before .before .before .before .before .before .before .before .before in
@@ -112,21 +88,21 @@ pub write-reason-spec : {M : Type 1} → statement M
 write-reason-spec =
     tie.close
     (tie.spec
-    mul-far
-    shared-slice-read-far
+    (search needs)
+    (search needs)
     returns
     cast-links
     add-size
     returns-2
-    sub-write-nodes
-    part-write-nodes-start
-    part-write-nodes-end
+    (search needs)
+    (search needs)
+    (search needs)
     write-nodes-requires
     add-write-head
     cast-write-head
     sub-write-head
     cast-write-head-2
-    cast-write-head-3
-    write-head-requires
-    same-length
+    (search needs)
+    (search needs)
+    (search needs)
     returns-3)

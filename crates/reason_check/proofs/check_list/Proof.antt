@@ -5,15 +5,9 @@ use Rattle.reason_check.specs.Table.{verdictNet}
 use Rattle.reason_check.proofs.check_list.Statement.{statement}
 use Rattle.reason_check.proofs.check_list.Tie as tie
 
-is-bad-statement-requires : tie.Need-is-bad-statement-requires
-is-bad-statement-requires c κs = search needs
-
 returns : tie.Need-returns
 unfolding verdictNet
 returns c = simp (sym (c .before .is-bad-statement .ensures) ∙ c .if1 .taken)
-
-is-path-requires : tie.Need-is-path-requires
-is-path-requires c κs = search needs
 
 returns-2 : tie.Need-returns-2
 unfolding verdictNet
@@ -29,4 +23,4 @@ returns-3 c =
 
 pub check-list-spec : {M : Type 1} → statement M
 check-list-spec =
-    tie.close (tie.spec is-bad-statement-requires returns is-path-requires returns-2 returns-3)
+    tie.close (tie.spec (search needs) returns (search needs) returns-2 returns-3)

@@ -4,18 +4,6 @@ use borrow.Author.Needs.{needs}
 use Rattle.reason_check.proofs.check_reason.Statement.{statement}
 use Rattle.reason_check.proofs.check_reason.Tie as tie
 
-check-net-requires : tie.Need-check-net-requires
-check-net-requires c κs = search needs
-
-enum-known-net : tie.Need-enum-known-net
-enum-known-net c = search needs
-
-enum-known-net-2 : tie.Need-enum-known-net-2
-enum-known-net-2 c = search needs
-
-check-list-requires : tie.Need-check-list-requires
-check-list-requires c κs = search needs
-
 returns : tie.Need-returns
 returns c =
     let a = c .before .before .before .before .before .before .args in
@@ -30,9 +18,9 @@ pub check-reason-spec : {M : Type 1} → statement M
 check-reason-spec =
     tie.close
     (tie.spec
-    check-net-requires
-    enum-known-net
-    enum-known-net-2
-    check-list-requires
+    (search needs)
+    (search needs)
+    (search needs)
+    (search needs)
     returns
     returns-2)

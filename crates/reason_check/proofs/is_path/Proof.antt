@@ -14,12 +14,6 @@ returns c =
     let a = c .before .before .before .args in
     sym (short-fails (a .o) (a .k) (a .words .now) (a .x) (a .y) (signAt (a .sign)) (a .list .now) (c .if1 .taken))
 
-shared-slice-read-first : tie.Need-shared-slice-read-first
-shared-slice-read-first c = search needs
-
-shared-slice-read-second : tie.Need-shared-slice-read-second
-shared-slice-read-second c = search needs
-
 returns-2 : tie.Need-returns-2
 returns-2 c =
     let long = c .before .before .before in
@@ -45,9 +39,6 @@ returns-3 c =
     let a = long .before .before .before .args in
     other-length (a .o) (a .k) (a .words .now) (a .x) (a .y) (signAt (a .sign)) (a .list .now) (long .if1 .left) (some .if2 .left) (c .if3 .taken)
 
-goes-with-requires : tie.Need-goes-with-requires
-goes-with-requires c κs = search needs
-
 returns-4 : tie.Need-returns-4
 returns-4 c =
     let sizes = c .before .before in
@@ -56,9 +47,6 @@ returns-4 c =
     let a = long .before .before .before .args in
     other-sign (a .o) (a .k) (a .words .now) (a .x) (a .y) (signAt (a .sign)) (a .list .now) (long .if1 .left) (some .if2 .left) (sizes .if3 .left)
     (c .before .goes-with .ensures) (c .if4 .taken)
-
-shared-slice-read-if5 : tie.Need-shared-slice-read-if5
-shared-slice-read-if5 c = search needs
 
 cast-if5 : tie.Need-cast-if5
 cast-if5 c = omega (arith, c .shared-slice-known5 .given 2)
@@ -72,15 +60,6 @@ returns-5 c =
     let a = long .before .before .before .args in
     other-start (a .o) (a .k) (a .words .now) (a .x) (a .y) (signAt (a .sign)) (a .list .now) (long .if1 .left) (some .if2 .left) (sizes .if3 .left)
     (goes .before .goes-with .ensures) (goes .if4 .left) (c .if5 .taken)
-
-sub-if6 : tie.Need-sub-if6
-sub-if6 c = search needs
-
-mul-if6 : tie.Need-mul-if6
-mul-if6 c = search needs
-
-shared-slice-read-if6 : tie.Need-shared-slice-read-if6
-shared-slice-read-if6 c = search needs
 
 cast-if6 : tie.Need-cast-if6
 cast-if6 c =
@@ -98,9 +77,6 @@ returns-6 c =
     other-end (a .o) (a .k) (a .words .now) (a .x) (a .y) (signAt (a .sign)) (a .list .now) (long .if1 .left) (some .if2 .left) (sizes .if3 .left)
     (goes .before .goes-with .ensures) (goes .if4 .left) (start .if5 .left) (c .if6 .taken)
 
-steps-hold-requires : tie.Need-steps-hold-requires
-steps-hold-requires c κs = search needs
-
 returns-7 : tie.Need-returns-7
 returns-7 c =
     let start = c .before .before .before in
@@ -117,23 +93,23 @@ is-path-spec =
     tie.close
     (tie.spec
     returns
-    shared-slice-read-first
-    shared-slice-read-second
+    (search needs)
+    (search needs)
     returns-2
     cast-if3
     cast-if3-2
     add-if3
     add-if3-2
     returns-3
-    goes-with-requires
+    (search needs)
     returns-4
-    shared-slice-read-if5
+    (search needs)
     cast-if5
     returns-5
-    sub-if6
-    mul-if6
-    shared-slice-read-if6
+    (search needs)
+    (search needs)
+    (search needs)
     cast-if6
     returns-6
-    steps-hold-requires
+    (search needs)
     returns-7)

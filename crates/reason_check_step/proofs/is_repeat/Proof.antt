@@ -27,9 +27,6 @@ returns-3 c =
       lt-leb (a .o) (a .from) (c .if3 .taken),
     )
 
-add-result : tie.Need-add-result
-add-result c = search needs
-
 returns-4 : tie.Need-returns-4
 unfolding repeats
 returns-4 c =
@@ -41,4 +38,4 @@ returns-4 c =
     )
 
 pub is-repeat-spec : {M : Type 1} → statement M
-is-repeat-spec = tie.close (tie.spec returns returns-2 returns-3 add-result returns-4)
+is-repeat-spec = tie.close (tie.spec returns returns-2 returns-3 (search needs) returns-4)

@@ -6,17 +6,11 @@ use Rattle.reason_check_step.specs.Steps.{makes}
 use Rattle.reason_check_step.proofs.makes_step.Statement.{statement}
 use Rattle.reason_check_step.proofs.makes_step.Tie as tie
 
-word-says-requires : tie.Need-word-says-requires
-word-says-requires c κs = search needs
-
 returns : tie.Need-returns
 unfolding makes
 returns c =
     let a = c .before .before .args in
     simp (lt-ltb (a .reached) (a .first) (c .before .if1 .taken)) (c .word-says .ensures)
-
-word-says-requires-2 : tie.Need-word-says-requires-2
-word-says-requires-2 c κs = search needs
 
 returns-2 : tie.Need-returns-2
 unfolding makes
@@ -28,9 +22,6 @@ returns-2 c =
       eq-eqb (a .reached) (a .first) (at .if2 .taken),
       sym (c .before .word-says2 .ensures) ∙ c .if3 .taken,
     )
-
-word-says-requires-3 : tie.Need-word-says-requires-3
-word-says-requires-3 c κs = search needs
 
 returns-3 : tie.Need-returns-3
 unfolding makes
@@ -44,9 +35,6 @@ returns-3 c =
     )
     (c .word-says3 .ensures)
 
-word-says-requires-4 : tie.Need-word-says-requires-4
-word-says-requires-4 c κs = search needs
-
 returns-4 : tie.Need-returns-4
 unfolding makes
 returns-4 c =
@@ -58,11 +46,11 @@ pub makes-step-spec : {M : Type 1} → statement M
 makes-step-spec =
     tie.close
     (tie.spec
-    word-says-requires
+    (search needs)
     returns
-    word-says-requires-2
+    (search needs)
     returns-2
-    word-says-requires-3
+    (search needs)
     returns-3
-    word-says-requires-4
+    (search needs)
     returns-4)

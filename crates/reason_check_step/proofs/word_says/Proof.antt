@@ -7,16 +7,10 @@ use Rattle.theory.specs.Words.{tailOf, headOf}
 use Rattle.reason_check_step.proofs.word_says.Statement.{statement}
 use Rattle.reason_check_step.proofs.word_says.Tie as tie
 
-tail-of-requires : tie.Need-tail-of-requires
-tail-of-requires c κs = search needs
-
 returns : tie.Need-returns
 returns c =
     let a = c .before .before .args in
     simp (ne-eqb (tailOf (a .word)) (a .x) (λ (e : tailOf (a .word) ≡ a .x). omega arith))
-
-head-of-requires : tie.Need-head-of-requires
-head-of-requires c κs = search needs
 
 returns-2 : tie.Need-returns-2
 returns-2 c =
@@ -30,4 +24,4 @@ returns-3 c =
     simp (eq-eqb (tailOf (a .word)) (a .x) (omega arith), eq-eqb (headOf (a .word)) (a .y) (omega arith))
 
 pub word-says-spec : {M : Type 1} → statement M
-word-says-spec = tie.close (tie.spec tail-of-requires returns head-of-requires returns-2 returns-3)
+word-says-spec = tie.close (tie.spec (search needs) returns (search needs) returns-2 returns-3)

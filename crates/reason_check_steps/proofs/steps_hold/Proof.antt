@@ -23,58 +23,13 @@ Inv-steps o k words list first steps holds₀ i₀ holds i =
 abbrev μ-steps : tie.MeasureT-steps
 μ-steps o k words list first steps holds₀ i₀ holds i = length list - 3 - i
 
-shared-slice-read-first : tie.Need-shared-slice-read-first Inv-loop μ-loop Inv-steps μ-steps
-shared-slice-read-first c = search needs
-
-sub-steps : tie.Need-sub-steps Inv-loop μ-loop Inv-steps μ-steps
-sub-steps c = search needs
-
 steps-holds : tie.Need-steps-holds Inv-loop μ-loop Inv-steps μ-steps
 steps-holds c = (refl, omega arith, refl)
-
-add-from : tie.Need-add-from Inv-loop μ-loop Inv-steps μ-steps
-add-from c = search needs
-
-mul-from : tie.Need-mul-from Inv-loop μ-loop Inv-steps μ-steps
-mul-from c = search needs
-
-shared-slice-read-from : tie.Need-shared-slice-read-from Inv-loop μ-loop Inv-steps μ-steps
-shared-slice-read-from c = search needs
-
-add-to : tie.Need-add-to Inv-loop μ-loop Inv-steps μ-steps
-add-to c = search needs
-
-mul-to : tie.Need-mul-to Inv-loop μ-loop Inv-steps μ-steps
-mul-to c = search needs
-
-shared-slice-read-to : tie.Need-shared-slice-read-to Inv-loop μ-loop Inv-steps μ-steps
-shared-slice-read-to c = search needs
-
-add-reached : tie.Need-add-reached Inv-loop μ-loop Inv-steps μ-steps
-add-reached c = search needs
-
-is-repeat-requires : tie.Need-is-repeat-requires Inv-loop μ-loop Inv-steps μ-steps
-is-repeat-requires c κs = search needs
 
 loop-holds : tie.Need-loop-holds Inv-loop μ-loop Inv-steps μ-steps
 loop-holds c =
     let path = c .before .before .before .before .before in
     (path .steps .inv .0, omega arith, refl)
-
-mul-makes-step : tie.Need-mul-makes-step Inv-loop μ-loop Inv-steps μ-steps
-mul-makes-step c = search needs
-
-shared-slice-read-makes-step : tie.Need-shared-slice-read-makes-step Inv-loop μ-loop Inv-steps μ-steps
-shared-slice-read-makes-step c = search needs
-
-makes-step-requires : tie.Need-makes-step-requires Inv-loop μ-loop Inv-steps μ-steps
-makes-step-requires c κs = search needs
-
-add-j : tie.Need-add-j Inv-loop μ-loop Inv-steps μ-steps
-add-j c = search needs
-
-loop-less : tie.Need-loop-less Inv-loop μ-loop Inv-steps μ-steps
-loop-less c = search needs
 
 loop-again : tie.Need-loop-again Inv-loop μ-loop Inv-steps μ-steps
 loop-again c =
@@ -84,9 +39,6 @@ loop-again c =
     let passed = word-passed (a .o) (a .k) (a .words .now) (a .list .now) (path .steps .i) (words .loop .j) (words .loop .inv .2) (omega arith) (c .before .makes-step .ensures) (c .if3 .left) in
     (words .loop .inv .0, omega arith, passed)
 
-steps-less : tie.Need-steps-less Inv-loop μ-loop Inv-steps μ-steps
-steps-less c = search needs
-
 steps-again : tie.Need-steps-again Inv-loop μ-loop Inv-steps μ-steps
 steps-again c =
     let words = c .before .before .before .before in
@@ -94,9 +46,6 @@ steps-again c =
     let a = path .before .before .before .before .args in
     let taken = word-taken (a .o) (a .k) (a .words .now) (a .list .now) (path .steps .i) (words .loop .j) (words .loop .inv .2) (omega arith) (omega arith) (c .before .makes-step .ensures) (c .if3 .taken) in
     (words .loop .inv .0, omega arith, path .steps .inv .2 ∙ taken)
-
-steps-less-2 : tie.Need-steps-less-2 Inv-loop μ-loop Inv-steps μ-steps
-steps-less-2 c = search needs
 
 steps-again-2 : tie.Need-steps-again-2 Inv-loop μ-loop Inv-steps μ-steps
 steps-again-2 c =
@@ -128,27 +77,27 @@ steps-hold-spec =
     μ-loop
     Inv-steps
     μ-steps
-    shared-slice-read-first
-    sub-steps
+    (search needs)
+    (search needs)
     steps-holds
-    add-from
-    mul-from
-    shared-slice-read-from
-    add-to
-    mul-to
-    shared-slice-read-to
-    add-reached
-    is-repeat-requires
+    (search needs)
+    (search needs)
+    (search needs)
+    (search needs)
+    (search needs)
+    (search needs)
+    (search needs)
+    (search needs)
     loop-holds
-    mul-makes-step
-    shared-slice-read-makes-step
-    makes-step-requires
-    add-j
-    loop-less
+    (search needs)
+    (search needs)
+    (search needs)
+    (search needs)
+    (search needs)
     loop-again
-    steps-less
+    (search needs)
     steps-again
-    steps-less-2
+    (search needs)
     steps-again-2
     returns
     returns-2)

@@ -66,9 +66,6 @@ returns c =
     let a = s .args in
     levels-stop (a .n) (a .sign) (a .words .now) (s .pre .0) (a .y) (s .pre .1 .0) (at .loop .i) (at .loop .inv .0) (at .loop .inv .2) (f .ensures .0) (f .ensures .1 (not-true _ (c .if1 .taken)))
 
-add-i : tie.Need-add-i Inv-loop μ-loop
-add-i c = search needs
-
 loop-less : tie.Need-loop-less Inv-loop μ-loop
 loop-less c =
     let at = c .before .before .before .before .before .before in
@@ -110,7 +107,7 @@ find-distances-spec =
     run-level-requires
     same-length
     returns
-    add-i
+    (search needs)
     loop-less
     loop-again
     same-length-2

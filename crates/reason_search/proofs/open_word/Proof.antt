@@ -8,18 +8,6 @@ use Rattle.reason_search.proofs.Opening.{opened-none, opened-one, opene
 use Rattle.reason_search.proofs.open_word.Statement.{statement}
 use Rattle.reason_search.proofs.open_word.Tie as tie
 
-tail-of-requires : tie.Need-tail-of-requires
-tail-of-requires c κs = search needs
-
-head-of-requires : tie.Need-head-of-requires
-head-of-requires c κs = search needs
-
-open-state-requires : tie.Need-open-state-requires
-open-state-requires c κs = search needs
-
-same-length : tie.Need-same-length
-same-length c = search needs
-
 returns : tie.Need-returns
 returns c =
     let f = c .before .before .open-state in
@@ -40,21 +28,6 @@ returns-2 c =
       λ e. refl,
     )
 
-open-state-requires-2 : tie.Need-open-state-requires-2
-open-state-requires-2 c κs = search needs
-
-add-open-state : tie.Need-add-open-state
-add-open-state c = search needs
-
-add-open-state-2 : tie.Need-add-open-state-2
-add-open-state-2 c = search needs
-
-open-state-requires-3 : tie.Need-open-state-requires-3
-open-state-requires-3 c κs = search needs
-
-same-length-2 : tie.Need-same-length-2
-same-length-2 c = search needs
-
 returns-3 : tie.Need-returns-3
 returns-3 c =
     let g = c .before .before .open-state3 in
@@ -69,21 +42,6 @@ returns-3 c =
           (along-and-back (a .n) (a .sign) (a .word) (h .before .tail-of .ensures) (h .head-of .ensures) (q .before .if1 .left) (q .if3 .taken)) (f .ensures .0) (g .ensures .0),
       kept-then (f .result) (g .result) (f .ensures .1) (g .ensures .1),
     )
-
-add-open-state-3 : tie.Need-add-open-state-3
-add-open-state-3 c = search needs
-
-open-state-requires-4 : tie.Need-open-state-requires-4
-open-state-requires-4 c κs = search needs
-
-add-open-state-4 : tie.Need-add-open-state-4
-add-open-state-4 c = search needs
-
-open-state-requires-5 : tie.Need-open-state-requires-5
-open-state-requires-5 c κs = search needs
-
-same-length-3 : tie.Need-same-length-3
-same-length-3 c = search needs
 
 returns-4 : tie.Need-returns-4
 returns-4 c =
@@ -104,21 +62,21 @@ pub open-word-spec : {M : Type 1} → statement M
 open-word-spec =
     tie.close
     (tie.spec
-    tail-of-requires
-    head-of-requires
-    open-state-requires
-    same-length
+    (search needs)
+    (search needs)
+    (search needs)
+    (search needs)
     returns
     returns-2
-    open-state-requires-2
-    add-open-state
-    add-open-state-2
-    open-state-requires-3
-    same-length-2
+    (search needs)
+    (search needs)
+    (search needs)
+    (search needs)
+    (search needs)
     returns-3
-    add-open-state-3
-    open-state-requires-4
-    add-open-state-4
-    open-state-requires-5
-    same-length-3
+    (search needs)
+    (search needs)
+    (search needs)
+    (search needs)
+    (search needs)
     returns-4)

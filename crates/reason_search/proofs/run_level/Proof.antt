@@ -24,12 +24,6 @@ abbrev μ-loop : tie.MeasureT-loop
 loop-holds : tie.Need-loop-holds Inv-loop μ-loop
 loop-holds c = (search needs, refl, refl, λ e. refl)
 
-mul-open-word : tie.Need-mul-open-word Inv-loop μ-loop
-mul-open-word c = search needs
-
-shared-slice-read-open-word : tie.Need-shared-slice-read-open-word Inv-loop μ-loop
-shared-slice-read-open-word c = search needs
-
 open-word-requires : tie.Need-open-word-requires Inv-loop μ-loop
 open-word-requires c κs =
     let at = c .before .before .before in
@@ -37,12 +31,6 @@ open-word-requires c κs =
     let a = s .args in
     let net = s .pre .1 .0 in
     (s .pre .0, (ends-at (a .n) (a .words .now) net (at .loop .j) (omega arith), (omega (arith, net .few), omega (arith, s .pre .1 .1))))
-
-add-j : tie.Need-add-j Inv-loop μ-loop
-add-j c = search needs
-
-loop-less : tie.Need-loop-less Inv-loop μ-loop
-loop-less c = search needs
 
 loop-again : tie.Need-loop-again Inv-loop μ-loop
 loop-again c =
@@ -71,11 +59,11 @@ run-level-spec =
     Inv-loop
     μ-loop
     loop-holds
-    mul-open-word
-    shared-slice-read-open-word
+    (search needs)
+    (search needs)
     open-word-requires
-    add-j
-    loop-less
+    (search needs)
+    (search needs)
     loop-again
     same-length
     returns)

@@ -20,15 +20,6 @@ abbrev μ-loop : tie.MeasureT-loop
 loop-holds : tie.Need-loop-holds Inv-loop μ-loop
 loop-holds c = (search needs, refl, refl)
 
-mul-places : tie.Need-mul-places Inv-loop μ-loop
-mul-places c = search needs
-
-slice-write-places : tie.Need-slice-write-places Inv-loop μ-loop
-slice-write-places c = search needs
-
-add-at : tie.Need-add-at Inv-loop μ-loop
-add-at c = search needs
-
 loop-less : tie.Need-loop-less Inv-loop μ-loop
 loop-less c = omega arith
 
@@ -37,9 +28,6 @@ loop-again c =
     let l = c .before in
     let d = l .before .args .places .now in
     (omega arith, simp length-set (l .loop .inv .1), rw (l .loop .inv .2) (fill-more (l .loop .at) never d (omega arith)))
-
-mul-places-2 : tie.Need-mul-places-2 Inv-loop μ-loop
-mul-places-2 c = search needs
 
 slice-write-places-2 : tie.Need-slice-write-places-2 Inv-loop μ-loop
 slice-write-places-2 c = omega (arith, c .before .before .pre)
@@ -60,12 +48,12 @@ start-at-spec =
     Inv-loop
     μ-loop
     loop-holds
-    mul-places
-    slice-write-places
-    add-at
+    (search needs)
+    (search needs)
+    (search needs)
     loop-less
     loop-again
-    mul-places-2
+    (search needs)
     slice-write-places-2
     same-length
     returns)

@@ -9,12 +9,6 @@ returns c =
     let a = c .before .args in
     from-elsewhere (a .from) (a .to) (a .state) (a .i) (a .best) (a .places .now) (c .if1 .taken)
 
-mul-if2 : tie.Need-mul-if2
-mul-if2 c = search needs
-
-shared-slice-read-if2 : tie.Need-shared-slice-read-if2
-shared-slice-read-if2 c = search needs
-
 returns-2 : tie.Need-returns-2
 returns-2 c =
     let s = c .before .before .before in
@@ -35,4 +29,4 @@ returns-4 c =
 
 pub better-of-spec : {M : Type 1} → statement M
 better-of-spec =
-    tie.close (tie.spec returns mul-if2 shared-slice-read-if2 returns-2 returns-3 returns-4)
+    tie.close (tie.spec returns (search needs) (search needs) returns-2 returns-3 returns-4)

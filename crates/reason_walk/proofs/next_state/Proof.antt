@@ -27,12 +27,6 @@ add-best c =
 loop-holds : tie.Need-loop-holds Inv-loop μ-loop
 loop-holds c = (search needs, refl)
 
-mul-best-of-word : tie.Need-mul-best-of-word Inv-loop μ-loop
-mul-best-of-word c = search needs
-
-shared-slice-read-best-of-word : tie.Need-shared-slice-read-best-of-word Inv-loop μ-loop
-shared-slice-read-best-of-word c = search needs
-
 best-of-word-requires : tie.Need-best-of-word-requires Inv-loop μ-loop
 best-of-word-requires c κs =
     let at = c .before .before in
@@ -40,12 +34,6 @@ best-of-word-requires c κs =
     let a = s .args in
     let net = s .pre .0 in
     (ends-at (a .n) (a .words .now) net (at .loop .j) (omega arith), (omega (arith, net .few), s .pre .1))
-
-add-j : tie.Need-add-j Inv-loop μ-loop
-add-j c = search needs
-
-loop-less : tie.Need-loop-less Inv-loop μ-loop
-loop-less c = search needs
 
 loop-again : tie.Need-loop-again Inv-loop μ-loop
 loop-again c =
@@ -69,10 +57,10 @@ next-state-spec =
     μ-loop
     add-best
     loop-holds
-    mul-best-of-word
-    shared-slice-read-best-of-word
+    (search needs)
+    (search needs)
     best-of-word-requires
-    add-j
-    loop-less
+    (search needs)
+    (search needs)
     loop-again
     returns)

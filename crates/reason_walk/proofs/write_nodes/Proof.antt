@@ -33,16 +33,10 @@ loop-holds c =
     let e = at-place (a .places .now) (a .x) never 0 (omega (arith, start .0, s .pre .1 .0)) in
     walking-begin (a .n) (signAt (a .sign)) (a .words .now) (a .places .now) (a .x) (a .list .now) (start .0) e (omega (arith, start .1, e)) (omega (arith, s .pre .1 .1 .1 .1, e))
 
-sub-left : tie.Need-sub-left Inv-loop μ-loop
-sub-left c = search needs
-
 next-state-requires : tie.Need-next-state-requires Inv-loop μ-loop
 next-state-requires c κs =
     let s = c .before .before .before .before .before .before in
     (s .pre .0, s .pre .1 .0)
-
-first-part-requires : tie.Need-first-part-requires Inv-loop μ-loop
-first-part-requires c κs = search needs
 
 add-count : tie.Need-add-count Inv-loop μ-loop
 add-count c =
@@ -104,9 +98,9 @@ write-nodes-spec =
     mul-left
     shared-slice-read-left
     loop-holds
-    sub-left
+    (search needs)
     next-state-requires
-    first-part-requires
+    (search needs)
     add-count
     node-of-requires
     mul-list

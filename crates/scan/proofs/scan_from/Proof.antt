@@ -8,15 +8,6 @@ use Rattle.scan.proofs.Outcomes.{checked-inside}
 use Rattle.scan.proofs.scan_from.Statement.{statement}
 use Rattle.scan.proofs.scan_from.Tie as tie
 
-check-net-requires : tie.Need-check-net-requires
-check-net-requires c κs = search needs
-
-enum-known-net : tie.Need-enum-known-net
-enum-known-net c = search needs
-
-enum-known-net-2 : tie.Need-enum-known-net-2
-enum-known-net-2 c = search needs
-
 scan-net-requires : tie.Need-scan-net-requires
 scan-net-requires c κs =
     let net = c .before .before in
@@ -32,9 +23,6 @@ returns c =
     passed-on (λ r. outcome (Refused r) (a .marks .now)) (a .o) (a .k) (a .words .now) (scanLines (a .kind) (a .o) (a .words .now) (a .x) (a .budget) (a .marks .now))
     (scanDone (a .kind) (a .words .now) (a .x) (a .budget) (a .marks .now)) (sym (checked .check-net .ensures) ∙ net .net .given .1)
 
-same-length : tie.Need-same-length
-same-length c = search needs
-
 returns-2 : tie.Need-returns-2
 returns-2 c =
     let ran = c .before .before in
@@ -49,10 +37,10 @@ pub scan-from-spec : {M : Type 1} → statement M
 scan-from-spec =
     tie.close
     (tie.spec
-    check-net-requires
-    enum-known-net
-    enum-known-net-2
+    (search needs)
+    (search needs)
+    (search needs)
     scan-net-requires
     returns
-    same-length
+    (search needs)
     returns-2)

@@ -33,9 +33,6 @@ returns-3 c =
     let a = c .before .before .before .before .before .args in
     scan-short (a .kind) (a .o) (a .n) (a .words .now) (a .x) (a .budget) (a .marks .now) (good (c .before)) (c .if4 .taken)
 
-put-start-requires : tie.Need-put-start-requires
-put-start-requires c κs = search needs
-
 scan-requires : tie.Need-scan-requires
 scan-requires c κs =
     let s = c .before .before .before .before .before .before .before .before .before .before in
@@ -50,9 +47,6 @@ scan-requires c κs =
       ),
     )
 
-same-length : tie.Need-same-length
-same-length c = search needs
-
 returns-4 : tie.Need-returns-4
 returns-4 c =
     let put = c .before .before .before .before .before .before .before in
@@ -62,9 +56,6 @@ returns-4 c =
     rw (c .if5 .taken) at
     (scan-ran (a .kind) (a .o) (a .n) (a .words .now) (a .x) (a .budget) (a .marks .now) (good at) (omega arith) (s .pre .0) (omega arith)
     (put .put-start .ensures) (c .before .before .before .scan .ensures .0))
-
-same-length-2 : tie.Need-same-length-2
-same-length-2 c = search needs
 
 returns-5 : tie.Need-returns-5
 returns-5 c =
@@ -83,9 +74,9 @@ scan-net-spec =
     returns
     returns-2
     returns-3
-    put-start-requires
+    (search needs)
     scan-requires
-    same-length
+    (search needs)
     returns-4
-    same-length-2
+    (search needs)
     returns-5)

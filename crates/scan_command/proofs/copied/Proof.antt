@@ -18,18 +18,6 @@ abbrev μ-loop : tie.MeasureT-loop
 loop-holds : tie.Need-loop-holds Inv-loop μ-loop
 loop-holds c = (search needs, refl, λ v l. absurd (omega arith))
 
-shared-slice-read-old : tie.Need-shared-slice-read-old Inv-loop μ-loop
-shared-slice-read-old c = search needs
-
-array-write-old : tie.Need-array-write-old Inv-loop μ-loop
-array-write-old c = search needs
-
-add-i : tie.Need-add-i Inv-loop μ-loop
-add-i c = search needs
-
-loop-less : tie.Need-loop-less Inv-loop μ-loop
-loop-less c = search needs
-
 loop-again : tie.Need-loop-again Inv-loop μ-loop
 loop-again c =
     let at = c .before .before in (
@@ -48,9 +36,9 @@ copied-spec =
     Inv-loop
     μ-loop
     loop-holds
-    shared-slice-read-old
-    array-write-old
-    add-i
-    loop-less
+    (search needs)
+    (search needs)
+    (search needs)
+    (search needs)
     loop-again
     returns)

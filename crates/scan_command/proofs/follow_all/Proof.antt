@@ -21,23 +21,11 @@ abbrev μ-loop : tie.MeasureT-loop
 loop-holds : tie.Need-loop-holds Inv-loop μ-loop
 loop-holds c = (search needs, refl, refl, kept)
 
-mul-follow : tie.Need-mul-follow Inv-loop μ-loop
-mul-follow c = search needs
-
-shared-slice-read-follow : tie.Need-shared-slice-read-follow Inv-loop μ-loop
-shared-slice-read-follow c = search needs
-
 follow-requires : tie.Need-follow-requires Inv-loop μ-loop
 follow-requires c κs =
     let at = c .before .before .before in
     let s = at .before .before .before in
     (s .pre .0, (inside-at (s .args .words .now) (s .pre .1 .0) (at .loop .i) (omega arith), (search needs, omega arith)))
-
-add-i : tie.Need-add-i Inv-loop μ-loop
-add-i c = search needs
-
-loop-less : tie.Need-loop-less Inv-loop μ-loop
-loop-less c = search needs
 
 loop-again : tie.Need-loop-again Inv-loop μ-loop
 loop-again c =
@@ -67,11 +55,11 @@ follow-all-spec =
     Inv-loop
     μ-loop
     loop-holds
-    mul-follow
-    shared-slice-read-follow
+    (search needs)
+    (search needs)
     follow-requires
-    add-i
-    loop-less
+    (search needs)
+    (search needs)
     loop-again
     same-length
     returns)

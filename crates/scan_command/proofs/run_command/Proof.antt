@@ -6,15 +6,6 @@ use borrow.Author.Needs.{needs}
 use Rattle.scan_command.proofs.run_command.Statement.{statement}
 use Rattle.scan_command.proofs.run_command.Tie as tie
 
-copied-requires : tie.Need-copied-requires
-copied-requires c κs = search needs
-
-follow-all-requires : tie.Need-follow-all-requires
-follow-all-requires c κs = search needs
-
-same-length : tie.Need-same-length
-same-length c = search needs
-
 returns : tie.Need-returns
 unfolding command
 returns c =
@@ -25,4 +16,4 @@ returns c =
     (f .ensures .0 ∙ links-agree (a .c) (k .result) (a .marks .now) (a .n) (k .ensures) (a .words .now) (a .marks .now) (s .pre .1 .0), f .ensures .1)
 
 pub run-command-spec : {M : Type 1} → statement M
-run-command-spec = tie.close (tie.spec copied-requires follow-all-requires same-length returns)
+run-command-spec = tie.close (tie.spec (λ c κs. search needs) (λ c κs. search needs) (λ c. search needs) returns)

@@ -5,11 +5,8 @@ use lib.Pow.{pow-lt}
 use Rattle.scan_link.proofs.bit_of.Statement.{statement}
 use Rattle.scan_link.proofs.bit_of.Tie as tie
 
-shl-result : tie.Need-shl-result
-shl-result c = search needs
-
 returns : tie.Need-returns
 returns c = omega (arith, pow-lt (c .pre))
 
 pub bit-of-spec : {M : Type 1} → statement M
-bit-of-spec = tie.close (tie.spec shl-result returns)
+bit-of-spec = tie.close (tie.spec (search needs) returns)

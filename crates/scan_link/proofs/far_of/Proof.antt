@@ -3,12 +3,6 @@ use borrow.Author.Needs.{needs}
 use Rattle.scan_link.proofs.far_of.Statement.{statement}
 use Rattle.scan_link.proofs.far_of.Tie as tie
 
-tail-of-requires : tie.Need-tail-of-requires
-tail-of-requires c κs = search needs
-
-head-of-requires : tie.Need-head-of-requires
-head-of-requires c κs = search needs
-
 returns : tie.Need-returns
 returns c = rw (c .before .if1 .taken) (c .tail-of .ensures)
 
@@ -16,4 +10,4 @@ returns-2 : tie.Need-returns-2
 returns-2 c = rw (c .before .if1 .left) (c .head-of .ensures)
 
 pub far-of-spec : {M : Type 1} → statement M
-far-of-spec = tie.close (tie.spec tail-of-requires head-of-requires returns returns-2)
+far-of-spec = tie.close (tie.spec (search needs) (search needs) returns returns-2)

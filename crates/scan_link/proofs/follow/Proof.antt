@@ -14,16 +14,10 @@ returns c =
     let a = c .before .before .args in
     (sym (follow-other (a .c) (a .old .now) (a .word) (a .marks .now) (c .if1 .taken)), kept)
 
-near-of-requires : tie.Need-near-of-requires
-near-of-requires c κs = search needs
-
 element-copy-out-has-mark : tie.Need-element-copy-out-has-mark
 element-copy-out-has-mark c =
     let s = c .before .before .before in
-    omega (arith, near-in (s .args .c .up) (s .pre .1 .0))
-
-has-mark-requires : tie.Need-has-mark-requires
-has-mark-requires c κs = search needs
+    omega (arith, near-in (s .args .c .«at_head») (s .pre .1 .0))
 
 returns-2 : tie.Need-returns-2
 returns-2 c =
@@ -35,16 +29,10 @@ returns-2 c =
       kept,
     )
 
-far-of-requires : tie.Need-far-of-requires
-far-of-requires c κs = search needs
-
 slice-read-byte : tie.Need-slice-read-byte
 slice-read-byte c =
     let s = c .before .before .before .before .before .before .before .before in
-    omega (arith, far-in (s .args .c .up) (s .pre .1 .0))
-
-has-mark-requires-2 : tie.Need-has-mark-requires-2
-has-mark-requires-2 c κs = search needs
+    omega (arith, far-in (s .args .c .«at_head») (s .pre .1 .0))
 
 returns-3 : tie.Need-returns-3
 returns-3 c =
@@ -57,16 +45,10 @@ returns-3 c =
       kept,
     )
 
-bit-of-requires : tie.Need-bit-of-requires
-bit-of-requires c κs = search needs
-
 slice-write-marks : tie.Need-slice-write-marks
 slice-write-marks c =
     let s = c .before .before .before .before .before .before .before .before .before .before .before in
-    omega (arith, far-in (s .args .c .up) (s .pre .1 .0))
-
-same-length : tie.Need-same-length
-same-length c = search needs
+    omega (arith, far-in (s .args .c .«at_head») (s .pre .1 .0))
 
 returns-4 : tie.Need-returns-4
 returns-4 c =
@@ -81,7 +63,7 @@ returns-4 c =
     let tested = not-false (h .result) (on .if2 .left) in (
       follow-new (a .c) (a .old .now) (a .word) (a .marks .now) (at .if1 .left) near (h .ensures) tested far had (c .bit-of .ensures),
       follow-more (a .c) (a .old .now) (a .word) (a .marks .now) (at .if1 .left) near (h .ensures) tested far had (c .bit-of .ensures) (c .before .if3 .left)
-          (omega (arith, far-in (a .c .up) (s .pre .1 .0))),
+          (omega (arith, far-in (a .c .«at_head») (s .pre .1 .0))),
     )
 
 pub follow-spec : {M : Type 1} → statement M
@@ -89,15 +71,15 @@ follow-spec =
     tie.close
     (tie.spec
     returns
-    near-of-requires
+    (search needs)
     element-copy-out-has-mark
-    has-mark-requires
+    (search needs)
     returns-2
-    far-of-requires
+    (search needs)
     slice-read-byte
-    has-mark-requires-2
+    (search needs)
     returns-3
-    bit-of-requires
+    (search needs)
     slice-write-marks
-    same-length
+    (search needs)
     returns-4)

@@ -3,12 +3,6 @@ use borrow.Author.Needs.{needs}
 use Rattle.scan_link.proofs.near_of.Statement.{statement}
 use Rattle.scan_link.proofs.near_of.Tie as tie
 
-head-of-requires : tie.Need-head-of-requires
-head-of-requires c κs = search needs
-
-tail-of-requires : tie.Need-tail-of-requires
-tail-of-requires c κs = search needs
-
 returns : tie.Need-returns
 returns c = rw (c .before .if1 .taken) (c .head-of .ensures)
 
@@ -16,4 +10,4 @@ returns-2 : tie.Need-returns-2
 returns-2 c = rw (c .before .if1 .left) (c .tail-of .ensures)
 
 pub near-of-spec : {M : Type 1} → statement M
-near-of-spec = tie.close (tie.spec head-of-requires tail-of-requires returns returns-2)
+near-of-spec = tie.close (tie.spec (search needs) (search needs) returns returns-2)

@@ -5,9 +5,6 @@ use Rattle.scan_round.proofs.Turns.{kind-ran, forward-ran}
 use Rattle.scan_round.proofs.round.Statement.{statement}
 use Rattle.scan_round.proofs.round.Tie as tie
 
-run-command-requires : tie.Need-run-command-requires
-run-command-requires c κs = search needs
-
 run-command-requires-2 : tie.Need-run-command-requires-2
 run-command-requires-2 c κs =
     let at1 = c .before .before .before .before in
@@ -38,9 +35,6 @@ run-command-requires-5 c κs =
     let s = at1 .before .before .before .before in
     (omega arith, (s .pre .0, (s .pre .1 .0, omega arith)))
 
-run-command-requires-6 : tie.Need-run-command-requires-6
-run-command-requires-6 c κs = search needs
-
 run-command-requires-7 : tie.Need-run-command-requires-7
 run-command-requires-7 c κs =
     let at1 = c .before .before .before .before in
@@ -62,9 +56,6 @@ run-command-requires-9 c κs =
     let s = at1 .before .before .before .before in
     (omega arith, (s .pre .0, (s .pre .1 .0, omega arith)))
 
-same-length : tie.Need-same-length
-same-length c = search needs
-
 returns : tie.Need-returns
 returns c =
     let at5 = c .before .before in
@@ -77,9 +68,6 @@ returns c =
     let a = s .args in
     kind-ran (a .kind) (a .n) (a .words .now) (a .marks .now) (s .pre .0) (s .pre .1 .1 .0) (s .pre .1 .1 .1) (begun .if1 .taken)
     (at1 .run-command .ensures) (at2 .run-command2 .ensures) (at3 .run-command3 .ensures) (at4 .run-command4 .ensures) (at5 .run-command5 .ensures)
-
-same-length-2 : tie.Need-same-length-2
-same-length-2 c = search needs
 
 returns-2 : tie.Need-returns-2
 returns-2 c =
@@ -97,16 +85,16 @@ pub round-spec : {M : Type 1} → statement M
 round-spec =
     tie.close
     (tie.spec
-    run-command-requires
+    (λ c κs. search needs)
     run-command-requires-2
     run-command-requires-3
     run-command-requires-4
     run-command-requires-5
-    run-command-requires-6
+    (λ c κs. search needs)
     run-command-requires-7
     run-command-requires-8
     run-command-requires-9
-    same-length
+    (λ c. search needs)
     returns
-    same-length-2
+    (λ c. search needs)
     returns-2)

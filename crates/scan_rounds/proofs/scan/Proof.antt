@@ -31,9 +31,6 @@ round-requires c κs =
     let s = c .before .before .before .before .before in
     (s .pre .0, (s .pre .1 .0, (omega arith, c .before .before .loop .inv .3)))
 
-add-count : tie.Need-add-count Inv-loop μ-loop
-add-count c = search needs
-
 same-length : tie.Need-same-length Inv-loop μ-loop
 same-length c = c .before .before .before .round .kept .1 .1 .1 .0 ∙ c .before .before .before .before .before .before .loop .inv .1
 
@@ -47,9 +44,6 @@ returns c =
           (r .ensures .1 .0) (not-true (r .result) (c .if1 .taken)),
       r .ensures .1 .1,
     )
-
-loop-less : tie.Need-loop-less Inv-loop μ-loop
-loop-less c = search needs
 
 loop-again : tie.Need-loop-again Inv-loop μ-loop
 loop-again c =
@@ -83,10 +77,10 @@ scan-spec =
     μ-loop
     loop-holds
     round-requires
-    add-count
+    (search needs)
     same-length
     returns
-    loop-less
+    (search needs)
     loop-again
     same-length-2
     returns-2)

@@ -7,26 +7,11 @@ use borrow.Author.Needs.{needs}
 use Rattle.scan_start.proofs.put_start.Statement.{statement}
 use Rattle.scan_start.proofs.put_start.Tie as tie
 
-clear-requires : tie.Need-clear-requires
-clear-requires c κs = search needs
-
-slice-write-marks : tie.Need-slice-write-marks
-slice-write-marks c = search needs
-
-slice-write-marks-2 : tie.Need-slice-write-marks-2
-slice-write-marks-2 c = search needs
-
-same-length : tie.Need-same-length
-same-length c = search needs
-
 returns : tie.Need-returns
 returns c =
     let at = c .before .before .before in
     let a = at .before .before .before .args in
     rw (c .if1 .taken, at .clear .ensures) (start-put (a .n) (a .x) (omega arith) true (drop (a .n) (a .marks .now)))
-
-same-length-2 : tie.Need-same-length-2
-same-length-2 c = search needs
 
 returns-2 : tie.Need-returns-2
 returns-2 c =
@@ -38,10 +23,10 @@ pub put-start-spec : {M : Type 1} → statement M
 put-start-spec =
     tie.close
     (tie.spec
-    clear-requires
-    slice-write-marks
-    slice-write-marks-2
-    same-length
+    (λ c κs. search needs)
+    (λ c. search needs)
+    (λ c. search needs)
+    (λ c. search needs)
     returns
-    same-length-2
+    (λ c. search needs)
     returns-2)

@@ -7,9 +7,6 @@ use Rattle.library_row.proofs.Fitting.{checked-fits}
 use Rattle.strumelka.proofs.strumelka_check_net.Statement.{statement}
 use Rattle.strumelka.proofs.strumelka_check_net.Tie as tie
 
-check-net-requires : tie.Need-check-net-requires
-check-net-requires c κs = search needs
-
 checked-given-requires : tie.Need-checked-given-requires
 checked-given-requires c κs =
     let a = c .before .before .args in
@@ -19,4 +16,4 @@ returns : tie.Need-returns
 returns c = carry-given checkedRow (sym (c .before .check-net .ensures)) (c .checked-given .ensures)
 
 pub strumelka-check-net-spec : {M : Type 1} → statement M
-strumelka-check-net-spec = tie.close (tie.spec check-net-requires checked-given-requires returns)
+strumelka-check-net-spec = tie.close (tie.spec (search needs) checked-given-requires returns)

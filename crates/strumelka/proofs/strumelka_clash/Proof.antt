@@ -7,17 +7,11 @@ use Rattle.library_answer.proofs.Operations.{clashGives, clash-fits}
 use Rattle.strumelka.proofs.strumelka_clash.Statement.{statement}
 use Rattle.strumelka.proofs.strumelka_clash.Tie as tie
 
-find-clash-requires : tie.Need-find-clash-requires
-find-clash-requires c κs = search needs
-
 clashed-given-requires : tie.Need-clashed-given-requires
 clashed-given-requires c κs =
     let find = c .before .before in
     let a = find .before .before .before .before .args in
     carry-fits clashGives (sym (find .find-clash .ensures)) (clash-fits (a .o) (a .k) (a .words .now) (a .marks .now))
-
-same-length : tie.Need-same-length
-same-length c = search needs
 
 returns : tie.Need-returns
 returns c =
@@ -26,4 +20,4 @@ returns c =
 
 pub strumelka-clash-spec : {M : Type 1} → statement M
 strumelka-clash-spec =
-    tie.close (tie.spec find-clash-requires clashed-given-requires same-length returns)
+    tie.close (tie.spec (search needs) clashed-given-requires (search needs) returns)

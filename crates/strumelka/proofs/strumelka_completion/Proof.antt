@@ -7,20 +7,11 @@ use Rattle.library_answer.proofs.Operations.{completionGives, completion-fits}
 use Rattle.strumelka.proofs.strumelka_completion.Statement.{statement}
 use Rattle.strumelka.proofs.strumelka_completion.Tie as tie
 
-complete-net-requires : tie.Need-complete-net-requires
-complete-net-requires c κs = search needs
-
 completed-given-requires : tie.Need-completed-given-requires
 completed-given-requires c κs =
     let complete = c .before .before .before .before in
     let a = complete .before .before .before .before .before .before .args in
     carry-fits completionGives (sym (complete .complete-net .ensures)) (completion-fits (a .o) (a .k) (a .words .now) (a .marks .now) (a .list .now))
-
-same-length : tie.Need-same-length
-same-length c = search needs
-
-same-length-2 : tie.Need-same-length-2
-same-length-2 c = search needs
 
 returns : tie.Need-returns
 returns c =
@@ -30,4 +21,4 @@ returns c =
 pub strumelka-completion-spec : {M : Type 1} → statement M
 strumelka-completion-spec =
     tie.close
-    (tie.spec complete-net-requires completed-given-requires same-length same-length-2 returns)
+    (tie.spec (search needs) completed-given-requires (search needs) (search needs) returns)

@@ -9,9 +9,6 @@ use Rattle.library_answer.proofs.Operations.{scanGives, scan-fits}
 use Rattle.strumelka.proofs.strumelka_forward_scan.Statement.{statement}
 use Rattle.strumelka.proofs.strumelka_forward_scan.Tie as tie
 
-forward-scan-requires : tie.Need-forward-scan-requires
-forward-scan-requires c κs = search needs
-
 scanned-given-requires : tie.Need-scanned-given-requires
 scanned-given-requires c κs =
     let scan = c .before .before in
@@ -20,9 +17,6 @@ scanned-given-requires c κs =
     carry-fits scanGives (sym (scan .forward-scan .ensures))
     (scan-fits false (a .o) (a .words .now) (a .start) (a .budget) (a .marks .now) (omega (arith, at .fits .budget)) (a .k))
 
-same-length : tie.Need-same-length
-same-length c = search needs
-
 returns : tie.Need-returns
 returns c =
     let e = c .before .before .before .forward-scan .ensures in
@@ -30,4 +24,4 @@ returns c =
 
 pub strumelka-forward-scan-spec : {M : Type 1} → statement M
 strumelka-forward-scan-spec =
-    tie.close (tie.spec forward-scan-requires scanned-given-requires same-length returns)
+    tie.close (tie.spec (search needs) scanned-given-requires (search needs) returns)

@@ -7,17 +7,11 @@ use Rattle.library_answer.proofs.Operations.{questionGives, question-fits}
 use Rattle.strumelka.proofs.strumelka_question.Statement.{statement}
 use Rattle.strumelka.proofs.strumelka_question.Tie as tie
 
-ask-question-requires : tie.Need-ask-question-requires
-ask-question-requires c κs = search needs
-
 asked-given-requires : tie.Need-asked-given-requires
 asked-given-requires c κs =
     let ask = c .before .before in
     let a = ask .before .before .before .before .args in
     carry-fits questionGives (sym (ask .ask-question .ensures)) (question-fits (a .o) (a .k) (a .words .now) (a .x) (a .y) (a .marks .now))
-
-same-length : tie.Need-same-length
-same-length c = search needs
 
 returns : tie.Need-returns
 returns c =
@@ -26,4 +20,4 @@ returns c =
 
 pub strumelka-question-spec : {M : Type 1} → statement M
 strumelka-question-spec =
-    tie.close (tie.spec ask-question-requires asked-given-requires same-length returns)
+    tie.close (tie.spec (search needs) asked-given-requires (search needs) returns)

@@ -7,21 +7,12 @@ use Rattle.library_answer.proofs.Operations.{reasonGives, reason-fits}
 use Rattle.strumelka.proofs.strumelka_reason.Statement.{statement}
 use Rattle.strumelka.proofs.strumelka_reason.Tie as tie
 
-find-reason-requires : tie.Need-find-reason-requires
-find-reason-requires c κs = search needs
-
 reasoned-given-requires : tie.Need-reasoned-given-requires
 reasoned-given-requires c κs =
     let find = c .before .before .before .before in
     let a = find .before .before .before .before .before .before .args in
     carry-fits reasonGives (sym (find .find-reason .ensures))
     (reason-fits (a .o) (a .k) (a .words .now) (a .x) (a .y) (a .sign) (a .scratch .now) (a .list .now))
-
-same-length : tie.Need-same-length
-same-length c = search needs
-
-same-length-2 : tie.Need-same-length-2
-same-length-2 c = search needs
 
 returns : tie.Need-returns
 returns c =
@@ -31,4 +22,4 @@ returns c =
 pub strumelka-reason-spec : {M : Type 1} → statement M
 strumelka-reason-spec =
     tie.close
-    (tie.spec find-reason-requires reasoned-given-requires same-length same-length-2 returns)
+    (tie.spec (search needs) reasoned-given-requires (search needs) (search needs) returns)

@@ -7,9 +7,6 @@ use Rattle.library_answer.proofs.Operations.{verdict-fits}
 use Rattle.strumelka.proofs.strumelka_reason_check.Statement.{statement}
 use Rattle.strumelka.proofs.strumelka_reason_check.Tie as tie
 
-check-reason-requires : tie.Need-check-reason-requires
-check-reason-requires c κs = search needs
-
 verdict-given-requires : tie.Need-verdict-given-requires
 verdict-given-requires c κs =
     let a = c .before .before .before .args in
@@ -20,4 +17,4 @@ returns c = carry-given verdictRow (sym (c .before .check-reason .ensures)) (c .
 
 pub strumelka-reason-check-spec : {M : Type 1} → statement M
 strumelka-reason-check-spec =
-    tie.close (tie.spec check-reason-requires verdict-given-requires returns)
+    tie.close (tie.spec (search needs) verdict-given-requires returns)

@@ -11,21 +11,6 @@ use borrow.Author.Needs.{needs}
 use Rattle.text_field.proofs.put_number.Statement.{statement}
 use Rattle.text_field.proofs.put_number.Tie as tie
 
-slice-aggregate-spell : tie.Need-slice-aggregate-spell
-slice-aggregate-spell c = search needs
-
-spell-requires : tie.Need-spell-requires
-spell-requires c κs = search needs
-
-sub-put-bytes : tie.Need-sub-put-bytes
-sub-put-bytes c = search needs
-
-part-put-bytes-start : tie.Need-part-put-bytes-start
-part-put-bytes-start c = search needs
-
-part-put-bytes-end : tie.Need-part-put-bytes-end
-part-put-bytes-end c = search needs
-
 -- What is lent of the digits is the number in decimal.
 lent : (c : tie.After-put-bytes-arg2)
     → take (10 - c .before .before .before .before .spell .result) (drop (c .before .before .before .before .spell .result) (c .before .before .before .before .spell .last .0))
@@ -37,9 +22,6 @@ lent c =
 put-bytes-requires : tie.Need-put-bytes-requires
 put-bytes-requires c κs = let e = ap length (lent c) in omega arith
 
-same-length : tie.Need-same-length
-same-length c = search needs
-
 returns : tie.Need-returns
 returns c =
     let start = c .before .before .before .before .before .before .before .before .before .before in
@@ -49,11 +31,11 @@ pub put-number-spec : {M : Type 1} → statement M
 put-number-spec =
     tie.close
     (tie.spec
-    slice-aggregate-spell
-    spell-requires
-    sub-put-bytes
-    part-put-bytes-start
-    part-put-bytes-end
+    (search needs)
+    (search needs)
+    (search needs)
+    (search needs)
+    (search needs)
     put-bytes-requires
-    same-length
+    (search needs)
     returns)
