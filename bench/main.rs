@@ -3,24 +3,17 @@
 //!
 //! `bench [ratios]`: with `ratios` no times are printed, for a machine on which the code is emulated.
 
-#[path = "../tests/library/answer.rs"]
-mod answer;
-#[path = "../tests/library/engine.rs"]
-#[allow(dead_code)]
 mod engine;
 #[path = "../tests/library/nets.rs"]
 #[allow(dead_code)]
 mod nets;
-#[path = "../tests/library/plain.rs"]
 mod plain;
-#[path = "../tests/library/proved.rs"]
 mod proved;
 #[path = "../tests/library/random.rs"]
 mod random;
 
-use answer::Answer;
-use engine::Engine;
-use nets::{random_net, word, Net};
+use engine::{Answer, Engine};
+use nets::{head_of, random_net, tail_of, word, Net};
 use random::Random;
 
 const SEED: u64 = 1;
@@ -95,10 +88,7 @@ fn main() {
 
 fn random_shape(o: usize, k: usize, size: usize) -> Shape {
     let net = random_net(&mut Random::new(SEED, size as u64), o, k, size, 25);
-    let (x, y) = (
-        plain::tail_of(net.words[0]) as u32,
-        plain::head_of(net.words[1]) as u32,
-    );
+    let (x, y) = (tail_of(net.words[0]) as u32, head_of(net.words[1]) as u32);
     Shape {
         name: format!("{} nodes, {} random links", o + k, size),
         net,

@@ -1,7 +1,6 @@
-//! What every function of the library answers: `struct strumelka_answer` of the header.
+//! What every operation answers.
 
 /// The number of the table and its values.
-#[repr(C)]
 #[derive(Clone, Copy, Debug, PartialEq, Eq)]
 pub struct Answer {
     pub number: u32,

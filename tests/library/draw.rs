@@ -1,84 +1,90 @@
-//! Random calls on a net: right and wrong numbers, buffers that fit, are too short or too long, all full of garbage.
+//! Random cases on a net: right and wrong numbers, lists that fit, are too short or too long, all full of garbage. How a field is
+//! drawn depends on its kind alone, so that an operation of known fields is drawn as soon as it stands in the table.
 
-use crate::input::{Buffers, Input, Lent, Operation};
+use crate::call::run;
+use crate::case::Case;
+use crate::fields::Field;
 use crate::nets::Net;
-use crate::plain;
+use crate::operations::Operation;
+use crate::paths::draw_path;
 use crate::random::Random;
 
-/// A call of the operation on the net.
-pub fn draw_input(random: &mut Random, net: &Net, operation: Operation) -> Input {
-    let mut input = Input {
-        operation,
-        o: net.o,
-        k: net.k,
-        words: Lent::holding(random, &net.words, any_word),
-        x: 0,
-        y: 0,
-        sign: 0,
-        budget: 0,
-        buffers: Buffers::default(),
-    };
-    match operation {
-        Operation::CheckNet => {}
-        Operation::Reason | Operation::ReasonCheck => draw_for_reason(random, net, &mut input),
-        _ => draw_for_marks(random, net, &mut input),
+/// A case of the operation on the net.
+pub fn draw_case<'a>(
+    random: &mut Random,
+    net: &Net,
+    operations: &'a [Operation],
+    operation: &'a Operation,
+) -> Case<'a> {
+    let mut draw = |&field: &Field| draw_field(random, net, field);
+    let values = operation.fields.iter().map(&mut draw).collect();
+    let mut case = Case { operation, values };
+    if operation.fields.contains(&Field::Path) {
+        draw_path(random, net, operations, &mut case);
     }
-    input
+    fit_to_result(random, net, &mut case);
+    case
 }
 
-/// The numbers and buffers of an operation that is lent marks.
-fn draw_for_marks(random: &mut Random, net: &Net, input: &mut Input) {
+/// The values of a field. A budget is endless and a list for the result is empty until the result is known.
+fn draw_field(random: &mut Random, net: &Net, field: Field) -> Vec<u32> {
     let nodes = net.nodes();
-    input.buffers.marks = draw_marks(random, nodes);
-    match input.operation {
-        Operation::ForwardScan => {
-            input.x = draw_node(random, net);
-            input.budget = draw_budget(random, input, nodes as u32);
+    match field {
+        Field::Objects => vec![net.o],
+        Field::Kinds => vec![net.k],
+        Field::Words => net.words.clone(),
+        Field::Node => vec![draw_node(random, net)],
+        Field::Kind => vec![draw_kind(random, net)],
+        Field::Sign => vec![draw_sign(random)],
+        Field::Budget => vec![u32::MAX],
+        Field::Marks => {
+            let size = draw_marks_size(random, nodes);
+            garbage(random, field, size)
         }
-        Operation::KindScan => {
-            input.x = draw_kind(random, net);
-            input.budget = draw_budget(random, input, nodes as u32);
+        Field::Scratch => {
+            let size = draw_size(random, 2 * nodes);
+            garbage(random, field, size)
         }
-        Operation::Question => {
-            input.x = draw_node(random, net);
-            input.y = draw_kind(random, net);
-        }
-        Operation::Completion => {
-            let size = size_needed(input);
-            input.buffers.words_list = draw_list(random, size, any_word);
-        }
-        _ => {}
+        Field::List | Field::Reason | Field::Path => Vec::new(),
+        Field::File => draw_file(random, net),
+        Field::Byte => vec![random.below(256) as u32],
     }
 }
 
-/// The numbers and buffers of a reason or a reason check.
-fn draw_for_reason(random: &mut Random, net: &Net, input: &mut Input) {
-    draw_statement(random, net, input);
-    if input.operation == Operation::ReasonCheck {
-        let list = draw_path(random, net, input);
-        input.buffers.reason_list = Lent::holding(random, &list, any_place);
+/// Budget and lists around what the call answers with an endless budget and an empty list.
+fn fit_to_result(random: &mut Random, net: &Net, case: &mut Case) {
+    let fitted = [Field::Budget, Field::List, Field::Reason];
+    if !case.operation.fields.iter().any(|it| fitted.contains(it)) {
         return;
     }
-    let size = draw_size(random, 2 * net.nodes());
-    input.buffers.scratch = Lent::of_size(random, size, any_place);
-    let size = size_needed(input);
-    input.buffers.reason_list = draw_list(random, size, any_place);
+    let answer = run(case, 0)
+        .expect("the archive keeps to its memory")
+        .answer;
+    let budget = draw_budget(random, answer.first, net.nodes() as u32);
+    let needed = if answer.number == 8 { answer.first } else { 4 };
+    case.set(Field::Budget, vec![budget]);
+    for field in [Field::List, Field::Reason] {
+        let size = draw_size(random, needed as usize);
+        case.set(field, garbage(random, field, size));
+    }
 }
 
-fn any_byte(random: &mut Random) -> u8 {
-    random.next() as u8
-}
-
-fn any_place(random: &mut Random) -> u16 {
-    random.next() as u16
-}
-
-fn any_word(random: &mut Random) -> u32 {
-    random.next() as u32
+/// A list of garbage, at most as long as `readings` takes: any numbers, and in a long list runs of them.
+fn garbage(random: &mut Random, field: Field, size: usize) -> Vec<u32> {
+    let shape = field.shape();
+    let size = size.min(shape.most);
+    let longest = 1 + size / 64;
+    let mut list = Vec::with_capacity(size);
+    while list.len() < size {
+        let number = random.next() as u32 >> (32 - 8 * shape.width);
+        let end = list.len() + random.within(1, longest);
+        list.resize(end.min(size), number);
+    }
+    list
 }
 
 /// Mostly a node, else a number from just past the last one to the largest.
-fn draw_node(random: &mut Random, net: &Net) -> u32 {
+pub fn draw_node(random: &mut Random, net: &Net) -> u32 {
     if random.chance(92) {
         return random.below(net.nodes()) as u32;
     }
@@ -98,7 +104,7 @@ fn draw_kind(random: &mut Random, net: &Net) -> u32 {
 
 fn draw_wrong(random: &mut Random, net: &Net) -> u32 {
     let nodes = net.nodes() as u32;
-    let any = any_word(random);
+    let any = random.next() as u32;
     random.pick(&[
         nodes,
         nodes + 1,
@@ -110,15 +116,13 @@ fn draw_wrong(random: &mut Random, net: &Net) -> u32 {
     ])
 }
 
-fn draw_statement(random: &mut Random, net: &Net, input: &mut Input) {
-    input.x = draw_node(random, net);
-    input.y = draw_kind(random, net);
-    let any = any_word(random);
-    input.sign = if random.chance(95) {
+fn draw_sign(random: &mut Random) -> u32 {
+    let any = random.next() as u32;
+    if random.chance(95) {
         random.below(2) as u32
     } else {
         random.pick(&[2, 3, 256, 65_536, u32::MAX, any])
-    };
+    }
 }
 
 /// A size around the one needed.
@@ -133,31 +137,16 @@ fn draw_size(random: &mut Random, needed: usize) -> usize {
     }
 }
 
-fn draw_marks(random: &mut Random, nodes: usize) -> Lent<u8> {
-    let size = if random.chance(70) {
+fn draw_marks_size(random: &mut Random, nodes: usize) -> usize {
+    if random.chance(70) {
         nodes + random.pick(&[0, 0, 1, 9])
     } else {
         draw_size(random, nodes)
-    };
-    Lent::of_size(random, size, any_byte)
-}
-
-fn draw_list<T: Copy>(
-    random: &mut Random,
-    needed: usize,
-    garbage: fn(&mut Random) -> T,
-) -> Lent<T> {
-    let size = draw_size(random, needed);
-    Lent::of_size(random, size, garbage)
+    }
 }
 
 /// A budget around the count that the scan has.
-fn draw_budget(random: &mut Random, input: &Input, nodes: u32) -> u32 {
-    let whole = Input {
-        budget: u32::MAX,
-        ..input.clone()
-    };
-    let count = whole.run(&plain::ENGINE).answer.first;
+fn draw_budget(random: &mut Random, count: u32, nodes: u32) -> u32 {
     let part = random.below(count as usize + 1) as u32;
     random.pick(&[
         0,
@@ -174,112 +163,33 @@ fn draw_budget(random: &mut Random, input: &Input, nodes: u32) -> u32 {
     ])
 }
 
-/// The places that the call needs in its list, found with an empty one.
-fn size_needed(input: &Input) -> usize {
-    let answer = input.run(&plain::ENGINE).answer;
-    if answer.number == 8 {
-        return answer.first as usize;
+/// A net file with some questions, its bytes one by one, now and then damaged.
+fn draw_file(random: &mut Random, net: &Net) -> Vec<u32> {
+    let words = 4 * net.words.len() as u32;
+    let questions: Vec<u32> = (0..random.below(7))
+        .map(|_| draw_node(random, net) & 0xffff | draw_kind(random, net) << 16)
+        .collect();
+    let asked = 4 * questions.len() as u32;
+    let mut numbers = vec![24, 8, 32, words, 32 + words, asked, net.o, net.k];
+    if random.chance(30) {
+        let at = random.below(6);
+        let any = random.next() as u32;
+        numbers[at] = random.pick(&[
+            0,
+            any,
+            numbers[at] ^ 1,
+            numbers[at] ^ 4,
+            u32::MAX - numbers[at],
+        ]);
     }
-    4
-}
-
-/// A list for the reason check. Where it is a path of the net, the statement asked is mostly the one it shows.
-fn draw_path(random: &mut Random, net: &Net, input: &mut Input) -> Vec<u16> {
-    let mut list = match random.below(10) {
-        0 => (0..random.below(7))
-            .map(|_| random.below(net.nodes() + 2) as u16)
-            .collect(),
-        1 => (0..random.below(7)).map(|_| any_place(random)).collect(),
-        2..=4 => shortest(net, input),
-        _ => wander(random, net, input),
-    };
-    if random.chance(45) {
-        spoil(random, net, &mut list);
+    numbers.extend(&net.words);
+    numbers.extend(questions);
+    let bytes = numbers.iter().flat_map(|number| number.to_le_bytes());
+    let mut file: Vec<u32> = bytes.map(u32::from).collect();
+    if random.chance(20) {
+        let any = random.below(file.len() + 1);
+        let size = random.pick(&[any, 0, 23, 24, 31, file.len() + 1, file.len() + 4, 32_769]);
+        file.resize(size, 0);
     }
-    list
-}
-
-/// The reason for the statement asked, or a list that is none.
-fn shortest(net: &Net, input: &Input) -> Vec<u16> {
-    let mut scratch = vec![0; 2 * net.nodes()];
-    let mut list = vec![0; 2 * net.nodes() + 3];
-    let answer = (plain::ENGINE.reason)(
-        input.o,
-        input.k,
-        &net.words,
-        input.x,
-        input.y,
-        input.sign,
-        &mut scratch,
-        &mut list,
-    );
-    list.truncate(if answer.number == 0 {
-        answer.first as usize
-    } else {
-        3
-    });
-    list
-}
-
-/// A path along random links, with kinds repeated now and then, and the statement that it shows.
-fn wander(random: &mut Random, net: &Net, input: &mut Input) -> Vec<u16> {
-    let mut first = vec![random.below(net.nodes()) as u16];
-    let mut second = Vec::new();
-    extend(random, net, &mut first, false);
-    if random.chance(60) {
-        let end = first[first.len() - 1];
-        let back = random.chance(50);
-        if let Some(crossed) = net.link_at(random, end, back, 1) {
-            second.push(crossed);
-            extend(random, net, &mut second, true);
-        }
-    }
-    if random.chance(95) {
-        input.x = first[0] as u32;
-        input.y = *second.last().unwrap_or(&first[first.len() - 1]) as u32;
-        input.sign = !second.is_empty() as u32;
-    }
-    let mut list = vec![first.len() as u16, second.len() as u16];
-    list.extend(first);
-    list.extend(second);
-    list
-}
-
-/// Up to seven more steps of one part.
-fn extend(random: &mut Random, net: &Net, part: &mut Vec<u16>, back: bool) {
-    for _ in 0..random.below(8) {
-        let end = part[part.len() - 1];
-        if random.chance(20) && end as u32 >= net.o {
-            part.push(end);
-        } else if let Some(next) = net.link_at(random, end, back, 0) {
-            part.push(next);
-        }
-    }
-}
-
-/// One thing wrong, or perhaps wrong, with a list.
-fn spoil(random: &mut Random, net: &Net, list: &mut Vec<u16>) {
-    if list.is_empty() {
-        return;
-    }
-    let at = random.below(list.len());
-    let node = random.below(net.nodes() + 1) as u16;
-    match random.below(9) {
-        0 => list.truncate(at),
-        1 => list.push(node),
-        2 => list[at] = node,
-        3 => list[at] = any_place(random),
-        4 => list.insert(at, node),
-        5 => drop(list.remove(at)),
-        6 => list[0] = list[0].wrapping_add(random.pick(&[1, 65_535])),
-        7 if list.len() > 1 => {
-            list[0] = list[0].wrapping_add(1);
-            list[1] = list[1].wrapping_sub(1);
-        }
-        _ => {
-            let again = list[at.max(2).min(list.len() - 1)];
-            list.insert(at.max(2).min(list.len()), again);
-            list[0] = list[0].wrapping_add(1);
-        }
-    }
+    file
 }

@@ -1,32 +1,48 @@
-//! Calls at the limits of the number table that random draws do not reach: the largest list of words, and one word more.
+//! Calls with more words than a case can have: the largest list that is allowed, and one word more.
 
-use crate::draw::draw_input;
-use crate::input::{Input, Operation, OPERATIONS};
-use crate::nets::{random_net, Net};
-use crate::plain::WORD_LIMIT;
+use crate::answer::Answer;
+use crate::call::{run, Outcome};
+use crate::case::Case;
+use crate::draw::draw_case;
+use crate::fields::Field;
+use crate::nets::{random_net, Net, WORD_LIMIT};
+use crate::operations::Operation;
 use crate::random::Random;
+use crate::tally::Tally;
 
-/// Every operation on the nets of `nets_at_limit`, a few times.
-pub fn calls_at_limit(seed: u64, each: &mut dyn FnMut(&Input)) {
+/// Every operation of the archive, on nets that are refused for their words and on nets with as many as are allowed.
+pub fn calls_at_limit(
+    seed: u64,
+    operations: &[Operation],
+    tally: &mut Tally,
+) -> Result<(), String> {
     let mut random = Random::new(seed, u64::MAX);
-    for (net, times) in nets_at_limit(&mut random) {
-        for operation in OPERATIONS {
-            for _ in 0..times {
-                each(&draw_input(&mut random, &net, operation));
-            }
+    for (net, answer) in refused_nets(&mut random) {
+        for operation in on_nets(operations) {
+            let case = draw_case(&mut random, &net, operations, operation);
+            let expected = Outcome::unchanged(&case, answer);
+            hold(&case, &expected, tally)?;
         }
     }
-    for net in wide_nets(&mut random) {
-        for operation in OPERATIONS {
-            if operation != Operation::Completion && operation != Operation::Clash {
-                each(&draw_input(&mut random, &net, operation));
-            }
+    for (o, k, size) in [(0, 1, 2), (24, 1000, 16_000)] {
+        let few = random_net(&mut random, o, k, size, 20);
+        let many = repeated(&mut random, &few);
+        for operation in on_nets(operations).filter(|it| k == 1 || !it.from_every_node) {
+            let mut case = draw_case(&mut random, &many, operations, operation);
+            let whole = case.clone();
+            case.set(Field::Words, few.words.clone());
+            hold(&whole, &run(&case, 0)?, tally)?;
         }
     }
+    Ok(())
 }
 
-/// One word too many, with and without too many nodes and an illegal word; and as many words as are allowed.
-fn nets_at_limit(random: &mut Random) -> Vec<(Net, usize)> {
+fn on_nets(operations: &[Operation]) -> impl Iterator<Item = &Operation> {
+    operations.iter().filter(|it| it.call.is_some())
+}
+
+/// One word too many, with and without too many nodes and an illegal word; and as many as are allowed, the last one illegal.
+fn refused_nets(random: &mut Random) -> Vec<(Net, Answer)> {
     let over = random_net(random, 1, 2, WORD_LIMIT + 1, 20);
     let mut both = over.clone();
     both.o = 1023;
@@ -35,11 +51,35 @@ fn nets_at_limit(random: &mut Random) -> Vec<(Net, usize)> {
     let mut last = over.clone();
     last.words.truncate(WORD_LIMIT);
     last.words[WORD_LIMIT - 1] = 0;
-    let most = random_net(random, 0, 1, WORD_LIMIT, 20);
-    vec![(over, 3), (both, 1), (illegal, 1), (last, 1), (most, 1)]
+    vec![
+        (over, Answer::new(2, 0, 0)),
+        (both, Answer::new(1, 0, 0)),
+        (illegal, Answer::new(2, 0, 0)),
+        (last, Answer::new(3, WORD_LIMIT as u32 - 1, 0)),
+    ]
 }
 
-/// 1,024 nodes with as many words as are allowed.
-fn wide_nets(random: &mut Random) -> Vec<Net> {
-    vec![random_net(random, 24, 1000, WORD_LIMIT, 10)]
+/// The net with its words repeated until there are as many as are allowed. A repeated word counts once, so that nothing changes.
+fn repeated(random: &mut Random, net: &Net) -> Net {
+    let mut many = net.clone();
+    while many.words.len() < WORD_LIMIT {
+        many.words.push(random.pick(&net.words));
+    }
+    many
+}
+
+/// Runs a case and holds its outcome to the one expected.
+fn hold(case: &Case, expected: &Outcome, tally: &mut Tally) -> Result<(), String> {
+    let found = run(case, 1)?;
+    tally.add(case.operation, found.answer)?;
+    if found == *expected {
+        return Ok(());
+    }
+    Err(format!(
+        "{} with {} words\nexpected: {}\narchive:  {}",
+        case.operation.name,
+        case.values_of(Field::Words).len(),
+        expected,
+        found
+    ))
 }

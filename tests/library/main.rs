@@ -1,140 +1,120 @@
-//! Calls the proved engine and the plain one on the same inputs and compares numbers, values and every byte in reach.
+//! Draws random cases for `readings`, and holds the archive to what `readings` prints for cases.
 //!
-//! `library [SEED [CALLS]]`: the seed is printed, and drawn from the clock where none is given. From 100,000 calls on
-//! the run covers the limits too and fails where some number of the table was never given.
+//! `library draw SEED CASES` prints that many cases, the seed first. `library replay CASES PRINTED` runs the cases of a file on the
+//! archive and compares with what was printed for them. Where the file says that it has enough drawn cases, the calls at the limits
+//! are made too, and it is an error if some outcome in the table of operations was never met.
 
 mod answer;
+mod call;
+mod case;
 mod draw;
-mod engine;
-mod input;
+mod fields;
 mod limits;
 mod nets;
-mod plain;
-mod proved;
+mod operations;
+mod paths;
 mod random;
-mod readings;
+mod replay;
 mod rules;
 mod tally;
 
+use std::io::{self, BufWriter, Write};
 use std::process::exit;
-use std::time::{SystemTime, UNIX_EPOCH};
 
-use input::{Input, Operation, OPERATIONS};
 use nets::Net;
+use operations::Operation;
 use random::Random;
 use tally::Tally;
 
-const LONG_RUN: u64 = 100_000;
-const DEFAULT_CALLS: u64 = 100_000;
-const CALLS_ON_A_NET: usize = 10;
-const SMALL_NET: usize = 7;
+/// From so many drawn cases on every outcome has to be met.
+const LONG_RUN: u64 = 10_000;
+const CASES_ON_A_NET: usize = 5;
 
 fn main() {
-    let (seed, calls) = arguments();
-    println!("seed {}, {} calls", seed, calls);
-    for engine in [&plain::ENGINE, &proved::ENGINE] {
-        if let Some(name) = readings::wrong_reading(engine) {
-            println!(
-                "the {} engine does not give the reading: {}",
-                engine.name, name
-            );
-            exit(1);
-        }
+    let words: Vec<String> = std::env::args().skip(1).collect();
+    let words: Vec<&str> = words.iter().map(String::as_str).collect();
+    let done = match words[..] {
+        ["draw", seed, cases] => draw_cases(number(seed), number(cases)),
+        ["replay", cases, printed] => replay_file(cases, printed),
+        _ => usage(),
+    };
+    if let Err(text) = done {
+        println!("FAILED: {}", text);
+        exit(1);
     }
-    let mut tally = Tally::default();
-    if calls >= LONG_RUN {
-        limits::calls_at_limit(seed, &mut |input| compare(seed, input, &mut tally));
-    }
-    let (mut index, mut closed) = (0, 0);
-    while tally.calls() < calls {
+}
+
+fn usage() -> ! {
+    eprintln!("usage: library draw SEED CASES | library replay CASES PRINTED");
+    exit(2)
+}
+
+fn number(text: &str) -> u64 {
+    text.parse().unwrap_or_else(|_| usage())
+}
+
+fn draw_cases(seed: u64, cases: u64) -> Result<(), String> {
+    let operations = operations::all_operations();
+    let mut out = BufWriter::new(io::stdout().lock());
+    let mut print = |text: String| writeln!(out, "{}", text).map_err(|it| it.to_string());
+    print(format!("# seed {} cases {}", seed, cases))?;
+    let (mut drawn, mut index) = (0, 0);
+    while drawn < cases {
         let mut random = Random::new(seed, index);
         let net = nets::draw_net(&mut random);
-        closed += hold_to_rules(&net) as u64;
-        calls_on_net(seed, &mut random, &net, &mut tally);
+        for _ in 0..CASES_ON_A_NET {
+            let operation = &operations[random.below(operations.len())];
+            if drawn < cases && is_quick(&mut random, &net, operation) {
+                print(draw::draw_case(&mut random, &net, &operations, operation).to_string())?;
+                drawn += 1;
+            }
+        }
         index += 1;
     }
-    tally.print();
-    if calls >= LONG_RUN && !tally.is_full() {
-        println!("some number of the table was never given");
-        exit(1);
-    }
-    println!(
-        "{} small nets closed under the rules, {} calls, no difference",
-        closed,
-        tally.calls()
-    );
+    Ok(())
 }
 
-fn arguments() -> (u64, u64) {
-    let number = |text: String| {
-        text.parse().unwrap_or_else(|_| {
-            eprintln!("usage: library [SEED [CALLS]]");
-            exit(2)
-        })
-    };
-    let mut words = std::env::args().skip(1);
-    let clock = SystemTime::now()
-        .duration_since(UNIX_EPOCH)
-        .map_or(1, |time| time.as_nanos() as u64 % 1_000_000_007);
-    let seed = words.next().map_or(clock, number);
-    let calls = words.next().map_or(DEFAULT_CALLS, number);
-    (seed, calls)
-}
-
-/// Holds the proved engine to the support rules on a net that is small and legal; whether it is.
-fn hold_to_rules(net: &Net) -> bool {
-    if net.nodes() > SMALL_NET || (plain::ENGINE.check_net)(net.o, net.k, &net.words).number != 0 {
-        return false;
-    }
-    if let Some(departure) = rules::departure(&proved::ENGINE, net) {
-        println!(
-            "DIFFERENCE from the rules: o {} k {} words {:?}\n{}",
-            net.o, net.k, net.words, departure
-        );
-        exit(1);
-    }
-    true
-}
-
-/// Some calls on a net. Where scans from every node take long, the operations that run them are rare, or left to the
-/// benchmark, which compares what both engines leave too.
-fn calls_on_net(seed: u64, random: &mut Random, net: &Net, tally: &mut Tally) {
-    let share = match net.work_from_every_node() {
-        0..=300_000 => 100,
-        300_001..=20_000_000 => 2,
+/// An operation that works from every node is rare where that takes long, and left to the benchmark where it takes very long.
+fn is_quick(random: &mut Random, net: &Net, operation: &Operation) -> bool {
+    let share = match net.nodes() * net.words.len() {
+        0..=50_000 => 100,
+        50_001..=1_000_000 => 2,
         _ => 0,
     };
-    for _ in 0..CALLS_ON_A_NET {
-        let operation = random.pick(&OPERATIONS);
-        let from_every_node = operation == Operation::Completion || operation == Operation::Clash;
-        if from_every_node && !random.chance(share) {
-            continue;
-        }
-        let input = draw::draw_input(random, net, operation);
-        compare(seed, &input, tally);
-    }
+    !operation.from_every_node || random.chance(share)
 }
 
-/// Both engines on one input. The first difference is printed with the whole input, and ends the run.
-fn compare(seed: u64, input: &Input, tally: &mut Tally) {
-    let before = input.words.clone();
-    let expected = input.run(&plain::ENGINE);
-    let found = input.run(&proved::ENGINE);
-    let kept = input.words == before;
-    if expected == found && kept {
-        tally.add(input.operation, expected.answer);
-        return;
+fn replay_file(cases: &str, printed: &str) -> Result<(), String> {
+    let read = |name: &str| match std::fs::read(name) {
+        Ok(bytes) => Ok(String::from_utf8_lossy(&bytes).into_owned()),
+        Err(cause) => Err(format!("{}: {}", name, cause)),
+    };
+    let (cases, printed) = (read(cases)?, read(printed)?);
+    let operations = operations::all_operations();
+    let mut tally = Tally::new(&operations);
+    let replayed = replay::replay(&operations, &cases, &printed, &mut tally)?;
+    if let Some((seed, drawn)) = seed_of(&cases) {
+        if replayed.taken != drawn {
+            return Err(format!("readings took only {} cases", replayed.taken));
+        }
+        if drawn >= LONG_RUN {
+            limits::calls_at_limit(seed, &operations, &mut tally)?;
+            tally.print();
+            tally.is_full()?;
+        }
     }
     println!(
-        "DIFFERENCE after {} calls with seed {}",
-        tally.calls(),
-        seed
+        "{} of {} cases run on the archive, {} questions held to the rules, no difference",
+        replayed.on_archive, replayed.taken, replayed.by_rules
     );
-    println!("--- input\n{}", input);
-    println!("--- plain engine\n{}", expected);
-    println!("--- proved engine\n{}", found);
-    if !kept {
-        println!("--- the words were changed");
+    Ok(())
+}
+
+/// The seed and the number of cases in the first line of a file of drawn cases.
+fn seed_of(cases: &str) -> Option<(u64, u64)> {
+    let words: Vec<&str> = cases.lines().next()?.split(' ').collect();
+    match words[..] {
+        ["#", "seed", seed, "cases", cases] => Some((number(seed), number(cases))),
+        _ => None,
     }
-    exit(1);
 }

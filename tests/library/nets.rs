@@ -1,7 +1,8 @@
-//! Random nets: from a handful of nodes to the limits, sound and damaged.
+//! Random nets: from none and a handful of nodes to the limits, sound and damaged.
 
-use crate::plain::{self, head_of, tail_of};
 use crate::random::Random;
+
+pub const WORD_LIMIT: usize = 2_097_152;
 
 /// A net as a caller hands it over; nothing says that it is legal.
 #[derive(Clone)]
@@ -17,31 +18,37 @@ impl Net {
         (self.o as usize + self.k as usize).min(1024)
     }
 
-    /// About how many words the rounds of forward scans from every node read, for one command of a round.
-    pub fn work_from_every_node(&self) -> usize {
-        let mut marks = vec![0; self.nodes()];
-        let answer =
-            (plain::ENGINE.forward_scan)(self.o, self.k, &self.words, 0, u32::MAX, &mut marks);
-        let rounds = if answer.number == 0 {
-            answer.first as usize
-        } else {
-            1
+    /// A node that a link of the sign leads to from a node: at the link's head, or at its tail where `back` holds. A tail that is
+    /// no node is cut to the 16 bits of a place in a path.
+    pub fn link_at(&self, random: &mut Random, node: u32, back: bool, sign: u32) -> Option<u32> {
+        let ends = |word: u32| {
+            let (tail, head) = (tail_of(word), head_of(word));
+            if back {
+                (head, tail)
+            } else {
+                (tail, head)
+            }
         };
-        self.nodes() * self.words.len() * rounds
-    }
-
-    /// A link of the sign that leads on from a node: out of it, or into it where `back` holds.
-    pub fn link_at(&self, random: &mut Random, node: u16, back: bool, sign: u32) -> Option<u16> {
-        let near = |&word: &u32| if back { head_of(word) } else { tail_of(word) } == node as usize && word % 2 == sign;
+        let near = |&word: &u32| ends(word).0 == node as usize && word % 2 == sign;
         let found: Vec<u32> = self.words.iter().copied().filter(near).collect();
         if found.is_empty() {
             return None;
         }
-        let word = random.pick(&found);
-        Some(if back { tail_of(word) } else { head_of(word) } as u16)
+        Some(ends(random.pick(&found)).1 as u32 % 65_536)
     }
 }
 
+/// A word's tail.
+pub fn tail_of(word: u32) -> usize {
+    (word / 2048) as usize
+}
+
+/// A word's head.
+pub fn head_of(word: u32) -> usize {
+    (word / 2 % 1024) as usize
+}
+
+/// The word of a link.
 pub fn word(tail: usize, head: usize, sign: usize) -> u32 {
     (tail * 2048 + head * 2 + sign) as u32
 }
@@ -99,21 +106,21 @@ pub fn draw_net(random: &mut Random) -> Net {
 fn draw_shape(random: &mut Random) -> Net {
     let share = random.below(1000);
     let (o, k, size) = match share {
-        0..=549 => (random.below(4), random.below(5), random.below(13)),
-        550..=849 => (random.below(9), random.within(1, 16), random.below(41)),
-        850..=939 => (random.below(40), random.within(1, 80), random.below(400)),
-        940..=979 => (random.below(2), random.within(1, 60), 0),
-        980..=989 => (random.below(1023), 0, random.below(4000)),
-        990..=993 => (random.below(2), random.within(200, 1023), 0),
+        0..=539 => (random.below(4), random.below(5), random.below(13)),
+        540..=834 => (random.below(9), random.within(1, 16), random.below(41)),
+        835..=924 => (random.below(40), random.within(1, 80), random.below(400)),
+        925..=964 => (random.below(2), random.within(1, 60), 0),
+        965..=974 => (random.below(1023), 0, random.below(4000)),
+        975..=978 => (random.below(2), random.within(200, 1023), 0),
         _ => return too_large_net(random),
     };
     match share {
-        0..=549 => {
+        0..=539 => {
             let against = random.pick(&[20, 40, 60]);
             random_net(random, o, k, size, against)
         }
-        940..=979 | 990..=993 => chain_net(random, o, k),
-        980..=989 => random_net(random, o, 1024 - o, size, 10),
+        925..=964 | 975..=978 => chain_net(random, o, k),
+        965..=974 => random_net(random, o, 1024 - o, size, 10),
         _ => random_net(random, o, k, size, 25),
     }
 }
@@ -157,18 +164,25 @@ fn repeat_words(random: &mut Random, net: &mut Net) {
 
 /// One or two illegal words somewhere.
 fn damage(random: &mut Random, net: &mut Net) {
-    let (o, nodes) = (net.o as usize, net.nodes());
     for _ in 0..random.within(1, 2) {
-        let tail = random.below(nodes + 1);
-        let sign = random.below(2);
-        let bad = match random.below(5) {
-            0 => word(tail, random.below(o.min(1024)), sign),
-            1 => word(tail, random.within(nodes.min(1023), 1023), sign),
-            2 => word(nodes, random.below(1024), sign),
-            3 => word(random.within(nodes, 2_097_151), random.below(1024), sign),
-            _ => random.next() as u32,
-        };
+        let bad = draw_illegal(random, net);
         let at = random.below(net.words.len() + 1);
         net.words.insert(at, bad);
+    }
+}
+
+/// A word that is illegal, or any word: an object as its head, a head or a tail of exactly N or of more.
+fn draw_illegal(random: &mut Random, net: &Net) -> u32 {
+    let (o, nodes) = (net.o as usize, net.nodes());
+    let sign = random.below(2);
+    let tail = random.below(nodes);
+    let kind = (o + random.below(nodes.saturating_sub(o))).min(1023);
+    match random.below(6) {
+        0 => word(tail, random.below(o.min(1024)), sign),
+        1 => word(tail, nodes.min(1023), sign),
+        2 => word(tail, random.within(nodes.min(1023), 1023), sign),
+        3 => word(nodes, kind, sign),
+        4 => word(random.within(nodes, 2_097_151), kind, sign),
+        _ => random.next() as u32,
     }
 }

@@ -1,84 +1,71 @@
-//! How often each operation gave each number.
+//! How often each operation had each outcome that its line of the table names.
 
 use crate::answer::Answer;
-use crate::input::{Operation, OPERATIONS};
+use crate::operations::{Met, Operation};
 
-/// The columns: numbers 0 to 8, and for number 0 of a question and of a reason check the values apart.
-const COLUMNS: usize = 9;
-const VALUES: [&str; 4] = ["none", "yes", "no", "both"];
-
-#[derive(Default)]
-pub struct Tally {
-    numbers: [[u64; COLUMNS]; 8],
-    words: [u64; 4],
-    verdicts: [u64; 2],
+pub struct Tally<'a> {
+    operations: &'a [Operation],
+    /// For each operation as many counts as it has outcomes.
+    counts: Vec<Vec<u64>>,
 }
 
-/// The numbers that an operation can give.
-fn possible(operation: Operation) -> &'static [usize] {
-    match operation {
-        Operation::CheckNet => &[0, 1, 2, 3],
-        Operation::ForwardScan | Operation::KindScan => &[0, 1, 2, 3, 4, 5, 6],
-        Operation::Question => &[0, 1, 2, 3, 4, 5],
-        Operation::Completion => &[0, 1, 2, 3, 5, 8],
-        Operation::Clash => &[0, 1, 2, 3, 5, 7],
-        Operation::Reason => &[0, 1, 2, 3, 4, 5, 7, 8],
-        Operation::ReasonCheck => &[0, 1, 2, 3, 4],
+impl Met {
+    fn is_met_by(self, answer: Answer) -> bool {
+        self.number == answer.number && self.first.map_or(true, |first| first == answer.first)
+    }
+
+    fn text(self) -> String {
+        match self.first {
+            Some(first) => format!("{}={}", self.number, first),
+            None => self.number.to_string(),
+        }
     }
 }
 
-impl Tally {
-    pub fn add(&mut self, operation: Operation, answer: Answer) {
-        self.numbers[operation as usize][answer.number as usize] += 1;
-        if answer.number == 0 && operation == Operation::Question {
-            self.words[answer.first as usize] += 1;
-        }
-        if answer.number == 0 && operation == Operation::ReasonCheck {
-            self.verdicts[answer.first as usize] += 1;
+impl<'a> Tally<'a> {
+    pub fn new(operations: &'a [Operation]) -> Tally<'a> {
+        let zeros = |operation: &Operation| vec![0; operation.outcomes.len()];
+        Tally {
+            operations,
+            counts: operations.iter().map(zeros).collect(),
         }
     }
 
-    pub fn calls(&self) -> u64 {
-        self.numbers.iter().flatten().sum()
-    }
-
-    /// Whether every number that can be given was given.
-    pub fn is_full(&self) -> bool {
-        let rows = OPERATIONS.iter().all(|&op| {
-            possible(op)
-                .iter()
-                .all(|&number| self.numbers[op as usize][number] > 0)
-        });
-        rows && self
-            .words
+    /// Counts an answer. One that the operation's line does not name is an error.
+    pub fn add(&mut self, operation: &Operation, answer: Answer) -> Result<(), String> {
+        let named = |line: &Operation| line.name == operation.name;
+        let place = self.operations.iter().position(named);
+        let counts = &mut self.counts[place.expect("the operation is in the table")];
+        match operation
+            .outcomes
             .iter()
-            .chain(&self.verdicts)
-            .all(|&count| count > 0)
+            .position(|met| met.is_met_by(answer))
+        {
+            Some(at) => counts[at] += 1,
+            None => return Err(format!("{} cannot answer {:?}", operation.name, answer)),
+        }
+        Ok(())
     }
 
-    pub fn print(&self) {
-        println!("| operation | 0 | 1 | 2 | 3 | 4 | 5 | 6 | 7 | 8 |");
-        println!("|---|---|---|---|---|---|---|---|---|---|");
-        for operation in OPERATIONS {
-            print!("| {:?} |", operation);
-            for number in 0..COLUMNS {
-                if possible(operation).contains(&number) {
-                    print!(" {} |", self.numbers[operation as usize][number]);
-                } else {
-                    print!(" - |");
-                }
+    /// An outcome that was never met is an error.
+    pub fn is_full(&self) -> Result<(), String> {
+        for (operation, counts) in self.operations.iter().zip(&self.counts) {
+            if let Some(at) = counts.iter().position(|&count| count == 0) {
+                let met = operation.outcomes[at].text();
+                return Err(format!("{} never gave {}", operation.name, met));
             }
-            println!();
         }
-        let words: Vec<String> = VALUES
-            .iter()
-            .zip(self.words)
-            .map(|(value, count)| format!("{} {}", value, count))
-            .collect();
-        println!("questions answered: {}", words.join(", "));
-        println!(
-            "reasons checked: no {}, yes {}",
-            self.verdicts[0], self.verdicts[1]
-        );
+        Ok(())
+    }
+
+    /// A line for each operation: its outcomes, and how often each was met.
+    pub fn print(&self) {
+        for (operation, counts) in self.operations.iter().zip(&self.counts) {
+            let pairs = operation.outcomes.iter().zip(counts);
+            let parts: Vec<String> = pairs
+                .map(|(met, count)| format!("{}: {}", met.text(), count))
+                .collect();
+            println!("{:14}{}", operation.name, parts.join("  "));
+        }
     }
 }

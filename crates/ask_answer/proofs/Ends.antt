@@ -4,7 +4,7 @@ use mathlib.Core.Path.{_≡_}
 use mathlib.Core.List.{List, [], _∷_, _++_, append-assoc}
 use native.Mathlib.Omega.{arith}
 use lib.ListN.{length, length-append}
-use Rattle.net.specs.Table.{refusalRow}
+use Rattle.net.specs.Table.{Row, refusalRow}
 use Rattle.net.specs.declared.Refusal.{Refusal}
 use Rattle.question.specs.declared.Answer.{Answer}
 use Rattle.question.specs.declared.Answer.the-variants.{None, Yes, No, Both}
@@ -26,8 +26,8 @@ word-of e = rw e
 pub done-fields : {q : Asked} {a : Answer} {count : ℕ} → q ≡ asked.Done a count → (answerWord a ++ 32 ∷ []) ++ (decimal count ++ 10 ∷ []) ≡ answerFields q
 done-fields {a = a} e = rw e (field-joins (answerWord a) _)
 
-pub refused-fields : {q : Asked} {r : Refusal} {n : ℕ} → q ≡ asked.Refused r → n ≡ refusalRow r .number
-    → (refusedWord ++ 32 ∷ []) ++ (decimal n ++ 10 ∷ []) ≡ answerFields q
+pub refused-fields : {q : Asked} {r : Refusal} {given : Row} → q ≡ asked.Refused r → given ≡ refusalRow r
+    → (refusedWord ++ 32 ∷ []) ++ (decimal (given .number) ++ 10 ∷ []) ≡ answerFields q
 refused-fields e f = rw (e, f)
 
 -- A field with its space takes one byte more.
@@ -39,7 +39,7 @@ pub number-room : (n b : ℕ) → length (decimal n ++ b ∷ []) ≤ 11
 number-room n b = simp length-append (omega (arith, most-digits 10 n))
 
 -- A word takes at most 4, and 5 with its space.
-word-size : (a : Answer) → length (answerWord a) ≤ 4
+pub word-size : (a : Answer) → length (answerWord a) ≤ 4
 word-size None = omega arith
 word-size Yes = omega arith
 word-size No = omega arith

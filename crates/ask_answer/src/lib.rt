@@ -1,12 +1,11 @@
-// What follows x and y in a question's line: the answer and its count, or `refused` and a number; and the number of a refusal.
+// What follows x and y in a question's line: the answer and its count, or `refused` and a number.
 ghost use Prim.Native.Nat.{_≤_};
 ghost use mathlib.Core.Path.{_≡_};
 ghost use mathlib.Core.List.{_++_, _∷_, []};
 ghost use lib.ListN.{length};
 ghost use Rattle.text_field.specs.Writing.{Wrote};
-ghost use Rattle.net.specs.Table.{refusalRow};
 ghost use Rattle.ask_answer.specs.Ending.{answerWord, answerFields};
-use net::Refusal;
+use net::refusal_given;
 use question::Answer;
 use question::Asked;
 use text_field::LINE_END;
@@ -27,19 +26,6 @@ fn put_word(text: &mut [u8], answer: Answer) -> usize
     }
 }
 
-// The number of a refusal in the number table.
-pub fn number_of(refusal: Refusal) -> u32
-    ensures { λ r. ⌜ r ≡ refusalRow refusal .number ⌝ }
-{
-    match refusal {
-        Refusal::TooManyNodes => 1,
-        Refusal::TooManyWords => 2,
-        Refusal::IllegalWord(_) => 3,
-        Refusal::BadQuestion => 4,
-        Refusal::ShortBuffer => 5,
-    }
-}
-
 // What follows x and y in a question's line. Gives how many bytes that is.
 pub fn put_answer(text: &mut [u8], asked: Asked) -> usize
     requires { ⌜ 19 ≤ length (now text) ⌝ }
@@ -52,7 +38,7 @@ pub fn put_answer(text: &mut [u8], asked: Asked) -> usize
         }
         Asked::Refused(refusal) => {
             let at = put_bytes(text, b"refused", SPACE);
-            at + put_number(&mut text[at..], number_of(refusal), LINE_END)
+            at + put_number(&mut text[at..], refusal_given(refusal).number, LINE_END)
         }
     }
 }

@@ -1,12 +1,12 @@
 -- What a question answers depends on the lent marks by their number alone, so that one list of marks serves all questions.
-use Prim.Native.Nat.{ℕ, _*_}
+use Prim.Native.Nat.{ℕ}
 use mathlib.Core.Path.{_≡_, refl, sym, ap, _∙_}
 use mathlib.Core.Bool.{Bool, true, false, cond}
 use mathlib.Core.List.{List}
 use lib.Dec.{ltb}
 use lib.ListN.{length, drop, length-replicate}
 use Rattle.theory.specs.Marks.{blank}
-use Rattle.theory.specs.Scans.{Scan, forwardScan}
+use Rattle.theory.specs.Scans.{Scan, fullScan}
 use Rattle.net.specs.Table.{checkNet, badPair}
 use Rattle.net.specs.declared.Refusal.the-variants.{BadQuestion, ShortBuffer}
 use Rattle.net.specs.declared.Checked.{Checked}
@@ -29,7 +29,7 @@ module _ (o k : ℕ) (ws : List ℕ) (x y : ℕ) (m m′ : List ℕ) (e : length
   after l = given (λ r. question (asked.Refused r) l) o k ws (questionLines o x y l) (questionDone ws x y l)
 
   same-for : (c : Checked) → after m c .answer ≡ after m′ c .answer
-  same-for (checked.Nodes n) = rw e (chosen n (forwardScan n ws x (2 * n)) (badPair o n x y) (ltb (length m′) n))
+  same-for (checked.Nodes n) = rw e (chosen n (fullScan n ws x) (badPair o n x y) (ltb (length m′) n))
   same-for (checked.Refused r) = refl
 
   -- As many marks, the same answer.

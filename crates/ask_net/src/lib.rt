@@ -1,31 +1,16 @@
 // The text for a net: a line for each question, or its number and index.
 ghost use Prim.Native.Nat.{_*_, _/_, _≤_};
-ghost use mathlib.Core.Path.{_≡_};
 ghost use lib.ListN.{length};
 ghost use Rattle.text_field.specs.Writing.{Wrote};
-ghost use Rattle.net.specs.Table.{refusalRow, checkNet};
+ghost use Rattle.net.specs.Table.{checkNet};
 ghost use Rattle.ask_net.specs.Replies.{linesOf, netText};
-use ask_answer::number_of;
 use ask_line::put_line;
 use ask_line::put_report;
 use net::Checked;
-use net::Refusal;
 use net::check_net;
+use net::refusal_given;
 use netfile_numbers::u16_at;
 use question::ask_question;
-
-// The index that goes with a refusal's number: 0 except for an illegal word.
-fn index_of(refusal: Refusal) -> usize
-    ensures { λ r. ⌜ r ≡ refusalRow refusal .first ⌝ }
-{
-    match refusal {
-        Refusal::TooManyNodes => 0,
-        Refusal::TooManyWords => 0,
-        Refusal::IllegalWord(i) => i,
-        Refusal::BadQuestion => 0,
-        Refusal::ShortBuffer => 0,
-    }
-}
 
 // A line for each question, each into what remains of the text. Gives how many bytes that is.
 fn put_lines(o: u32, k: u32, words: &[u32], questions: &[u8], text: &mut [u8]) -> usize
@@ -47,17 +32,15 @@ fn put_lines(o: u32, k: u32, words: &[u32], questions: &[u8], text: &mut [u8]) -
 
 // The text for a net: a line for each question, or its number and index. Gives how many bytes that is.
 pub fn answer_net(o: u32, k: u32, words: &[u32], questions: &[u8], text: &mut [u8]) -> usize
-    requires { ⌜ (length (now words) ≤ 8192) × ((26 ≤ length (now text)) × (length (now questions) / 4 * 31 ≤ length (now text))) ⌝ }
+    requires { ⌜ (26 ≤ length (now text)) × (length (now questions) / 4 * 31 ≤ length (now text)) ⌝ }
     ensures { λ r. ⌜ Wrote (netText o k (now (words .entry)) (now (questions .entry)) (checkNet o k (now (words .entry)))) (now (text .entry)) (now (text .exit)) r ⌝ }
 {
     let checked = check_net(o, k, words);
     match checked {
         Checked::Nodes(_) => put_lines(o, k, words, questions, text),
-        Checked::Refused(refusal) => put_report(
-            text,
-            b"net",
-            number_of(refusal),
-            index_of(refusal) as u32,
-        ),
+        Checked::Refused(refusal) => {
+            let row = refusal_given(refusal);
+            put_report(text, b"net", row.number, row.first)
+        }
     }
 }

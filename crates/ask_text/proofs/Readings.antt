@@ -8,12 +8,12 @@ use Rattle.theory.specs.Scans.{same, rounds}
 use Rattle.net.specs.Legal.{legalPrefix}
 use Rattle.net.specs.Table.{checkNet}
 use Rattle.netfile_entry.specs.Entries.{entryAt}
-use Rattle.netfile.specs.Contents.{contentsOf}
+use Rattle.netfile.specs.Contents.{entriesOf}
 use Rattle.netfile_numbers.specs.Bytes.{u32s}
 use Rattle.text_field.specs.Decimal.{digits}
 use Rattle.ask_line.specs.Line.{lineOf}
 use Rattle.ask_net.specs.Replies.{linesOf, netText}
-use Rattle.ask_text.specs.Text.{fileText, textOf}
+use Rattle.ask_text.specs.Text.{textOf}
 
 -- The bytes of a number of four, and of a question.
 abbrev four : ℕ → List ℕ
@@ -42,7 +42,7 @@ M-text =
     ++ (51 ∷ 32 ∷ 48 ∷ 32 ∷ 114 ∷ 101 ∷ 102 ∷ 117 ∷ 115 ∷ 101 ∷ 100 ∷ 32 ∷ 52 ∷ 10 ∷ [])
 
 pub M-reads : textOf M-file ≡ M-text
-unfolding fileText contentsOf entryAt u32s netText checkNet legalPrefix linesOf lineOf digits rounds round command links link mark same
+unfolding textOf entriesOf entryAt u32s netText checkNet legalPrefix linesOf lineOf digits rounds round command links link mark same
 M-reads = refl
 
 -- A file that is refused: `file 9` and the place.
@@ -50,20 +50,20 @@ abbrev pub refusedFile : ℕ → List ℕ
 refusedFile place = 102 ∷ 105 ∷ 108 ∷ 101 ∷ 32 ∷ 57 ∷ 32 ∷ (48 + place) ∷ 10 ∷ []
 
 pub no-bytes : textOf [] ≡ refusedFile 3
-unfolding fileText contentsOf digits
+unfolding textOf entriesOf digits
 no-bytes = refl
 
 pub bytes-23 : textOf (replicate 23 0) ≡ refusedFile 3
-unfolding fileText contentsOf digits
+unfolding textOf entriesOf digits
 bytes-23 = refl
 
 pub bytes-24 : textOf (replicate 24 0) ≡ refusedFile 0
-unfolding fileText contentsOf entryAt digits
+unfolding textOf entriesOf entryAt digits
 bytes-24 = refl
 
 -- A length of 2 ^ 32 - 28 whose end would be 4 in four bytes.
 pub end-past-four-bytes : textOf (contents 4294967268 4 28 ++ four 1 ++ four 1) ≡ refusedFile 1
-unfolding fileText contentsOf entryAt digits
+unfolding textOf entriesOf entryAt digits
 end-past-four-bytes = refl
 
 -- A file without questions whose net is refused: `net`, the number and the index.
@@ -71,14 +71,14 @@ abbrev pub refusedNet : ℕ → ℕ → List ℕ
 refusedNet number index = 110 ∷ 101 ∷ 116 ∷ 32 ∷ (48 + number) ∷ 32 ∷ (48 + index) ∷ 10 ∷ []
 
 pub too-many-nodes : textOf (contents 0 32 0 ++ four 4294967295 ++ four 1) ≡ refusedNet 1 0
-unfolding fileText contentsOf entryAt u32s netText checkNet digits
+unfolding textOf entriesOf entryAt u32s netText checkNet digits
 too-many-nodes = refl
 
 pub illegal-word : textOf (contents 8 40 0 ++ four 1 ++ four 1 ++ four 2 ++ four 0) ≡ refusedNet 3 1
-unfolding fileText contentsOf entryAt u32s netText checkNet legalPrefix digits
+unfolding textOf entriesOf entryAt u32s netText checkNet legalPrefix digits
 illegal-word = refl
 
 -- A legal net without questions prints nothing.
 pub no-questions : textOf (contents 4 36 0 ++ four 1 ++ four 1 ++ four 2) ≡ []
-unfolding fileText contentsOf entryAt u32s netText checkNet legalPrefix linesOf
+unfolding textOf entriesOf entryAt u32s netText checkNet legalPrefix linesOf
 no-questions = refl

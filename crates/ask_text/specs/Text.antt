@@ -1,12 +1,11 @@
 -- The text that `ask` prints for a file.
-use Prim.Native.Nat.{ℕ, _-_, _/_}
+use Prim.Native.Nat.{ℕ, _/_}
 use mathlib.Core.List.{List}
-use lib.ListN.{length, take, drop}
+use lib.ListN.{length}
 use Rattle.net.specs.Table.{checkNet}
 use Rattle.netfile_numbers.specs.Bytes.{u32At, u32s}
-use Rattle.netfile.specs.Contents.{contentsOf, contentsRow}
-use Rattle.netfile.specs.declared.Contents.{Contents}
-use Rattle.netfile.specs.declared.Contents.the-variants.{Bodies, Malformed}
+use Rattle.netfile.specs.Contents.{contentsRow, entriesOf, stretch}
+use Rattle.netfile.specs.declared.Contents.the-variants.{Malformed}
 use Rattle.ask_net.specs.Replies.{netText}
 use Rattle.text_field.specs.Decimal.{decimal}
 use Rattle.ask_answer.specs.Ending.{field, lastField}
@@ -18,11 +17,10 @@ bodiesText nodes words questions =
     netText (u32At nodes 0) (u32At nodes 4) (u32s (length words / 4) words) questions
     (checkNet (u32At nodes 0) (u32At nodes 4) (u32s (length words / 4) words))
 
--- The text for a file.
-unfoldable pub fileText : List ℕ → Contents → List ℕ
-fileText s (Bodies e) = bodiesText (take 8 (drop 24 s)) (take (e - 32) (drop 32 s)) (drop e s)
-fileText s (Malformed place) = field fileWord (field (decimal (contentsRow (Malformed place) .number)) (lastField (decimal (contentsRow (Malformed place) .first))))
+-- The text for a malformed one: its number and the place.
+abbrev pub fileReport : ℕ → List ℕ
+fileReport place = field fileWord (field (decimal (contentsRow (Malformed place) .number)) (lastField (decimal (contentsRow (Malformed place) .first))))
 
--- All that `ask` prints.
-abbrev pub textOf : List ℕ → List ℕ
-textOf s = fileText s (contentsOf s)
+-- All that `ask` prints for a file, whose bodies are the stretches between each entry's start and end.
+unfoldable pub textOf : List ℕ → List ℕ
+textOf s = entriesOf fileReport (λ a e b f c g. bodiesText (stretch s a e) (stretch s b f) (stretch s c g)) s

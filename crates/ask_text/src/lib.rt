@@ -3,6 +3,7 @@ ghost use Prim.Native.Nat.{_*_, _/_, _≤_};
 ghost use mathlib.Core.Path.{_≡_};
 ghost use mathlib.Core.List.{_++_};
 ghost use lib.ListN.{length, drop};
+ghost use Rattle.netfile.specs.Contents.{fileLimit};
 ghost use Rattle.text_field.specs.Writing.{Wrote};
 ghost use Rattle.ask_text.specs.Text.{bodiesText, textOf};
 use ask_line::put_report;
@@ -15,7 +16,7 @@ use netfile_numbers::u32_at;
 
 // The text for the bodies of a file. Gives how many bytes that is.
 fn answer_bodies(nodes: &[u8], links: &[u8], questions: &[u8], text: &mut [u8]) -> usize
-    requires { ⌜ (8 ≤ length (now nodes)) × ((length (now links) ≤ 32768) × ((26 ≤ length (now text)) × (length (now questions) / 4 * 31 ≤ length (now text)))) ⌝ }
+    requires { ⌜ (8 ≤ length (now nodes)) × ((length (now links) ≤ fileLimit) × ((26 ≤ length (now text)) × (length (now questions) / 4 * 31 ≤ length (now text)))) ⌝ }
     ensures { λ r. ⌜ Wrote (bodiesText (now (nodes .entry)) (now (links .entry)) (now (questions .entry))) (now (text .entry)) (now (text .exit)) r ⌝ }
 {
     let mut words = [0u32; 8192];

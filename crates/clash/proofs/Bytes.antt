@@ -6,18 +6,18 @@ use mathlib.Core.List.{List}
 use native.Mathlib.Omega.{arith}
 use native.Mathlib.Numerals.{add-one}
 use lib.ListN.{getD}
-use Rattle.theory.specs.Marks.{T, F, has}
+use Rattle.theory.specs.Marks.{saysYes, saysNo}
 use Rattle.theory.proofs.Bytes.{has-T, no-T, has-F, no-F}
 use Rattle.clash.specs.Table.{firstBoth}
 
 module _ (b : ℕ) where
-  pub both : b % 4 ≡ 3 → (has T b && has F b) ≡ true
+  pub both : b % 4 ≡ 3 → (saysYes b && saysNo b) ≡ true
   both h = rw (has-T b (omega arith), has-F b (omega arith))
 
-  pub not-both : (b % 4 ≡ 3 → ⊥) → (has T b && has F b) ≡ false
+  pub not-both : (b % 4 ≡ 3 → ⊥) → (saysYes b && saysNo b) ≡ false
   not-both h = at (b % 2) refl
     where
-      at : (q : ℕ) → b % 2 ≡ q → (has T b && has F b) ≡ false
+      at : (q : ℕ) → b % 2 ≡ q → (saysYes b && saysNo b) ≡ false
       at zero e = rw (no-T b (λ (i : b % 2 ≡ 1). omega arith))
       at (suc q) e = rw (has-T b (omega arith), no-F b (λ (i : b / 2 % 2 ≡ 1). h (omega arith)))
 

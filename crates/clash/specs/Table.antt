@@ -1,15 +1,14 @@
--- The outcome of the clash test, by the number table from top to bottom.
+-- The number table of the clash test.
 use Prim.Native.Nat.{ℕ, zero, suc, _+_}
-use mathlib.Core.Bool.{cond, _&&_}
-use mathlib.Core.List.{List}
+use mathlib.Core.Bool.{Bool, true, false, cond, _&&_}
+use mathlib.Core.List.{List, [], _∷_}
 use lib.Dec.{ltb}
 use lib.ListN.{length, getD}
-use Rattle.theory.specs.Marks.{T, F, has}
+use Rattle.theory.specs.Marks.{saysYes, saysNo}
 use Rattle.theory.specs.Completion.{fullMarks}
-use Rattle.net.specs.Table.{checkNet, Row, row, refusalRow}
+use Rattle.net.specs.Lines.{Line, line, call}
+use Rattle.net.specs.Table.{netLines, Row, row, refusalRow}
 use Rattle.net.specs.declared.Refusal.the-variants.{ShortBuffer}
-use Rattle.net.specs.declared.Checked.{Checked}
-use Rattle.net.specs.declared.Checked.the-variants as checked
 use Rattle.scan_start.specs.Starts.{cleared}
 use Rattle.clash.specs.declared.Clashed.{Clashed}
 use Rattle.clash.specs.declared.Clashed.the-variants as clashed
@@ -29,7 +28,7 @@ clashNodes o k = o
 -- The first of j kinds from y on that has both marks, or the one after them.
 unfoldable pub firstBoth : List ℕ → ℕ → ℕ → ℕ
 firstBoth m y zero = y
-firstBoth m y (suc j) = cond (has T (getD m y 0) && has F (getD m y 0)) y (firstBoth m (suc y) j)
+firstBoth m y (suc j) = cond (saysYes (getD m y 0) && saysNo (getD m y 0)) y (firstBoth m (suc y) j)
 
 -- The first of j nodes from x on that clashes, with its first kind.
 unfoldable pub firstClash : ℕ → ℕ → List ℕ → ℕ → ℕ → Clashed
@@ -38,20 +37,33 @@ firstClash o k ws x (suc j) =
     cond (ltb (firstBoth (fullMarks o k ws x) o k) (o + k)) (clashed.At x (firstBoth (fullMarks o k ws x) o k))
     (firstClash o k ws (suc x) j)
 
--- Rows 5, 7 and 0 for a net of n nodes.
-unfoldable pub clashNet : ℕ → ℕ → ℕ → List ℕ → List ℕ → Clash
-clashNet o k n ws m =
-    cond (ltb (length m) n) (clash (clashed.Refused ShortBuffer) m)
-    (clash (firstClash o k ws 0 (clashNodes o k)) (cleared n m))
+-- The search over all nodes that can clash.
+abbrev pub clashSearch : ℕ → ℕ → List ℕ → Clashed
+clashSearch o k ws = firstClash o k ws 0 (clashNodes o k)
 
--- Rows 1, 2 and 3 first.
-unfoldable pub clashChecked : ℕ → ℕ → List ℕ → List ℕ → Checked → Clash
-clashChecked o k ws m (checked.Nodes n) = clashNet o k n ws m
-clashChecked o k ws m (checked.Refused r) = clash (clashed.Refused r) m
+-- A search came to no clash.
+abbrev pub nowhere : Clashed → Bool
+nowhere (clashed.At x y) = false
+nowhere clashed.Nowhere = true
+nowhere (clashed.Refused r) = false
+
+-- Lines 5 and 7 on n nodes whose search came to `found`.
+abbrev pub clashLines : Clashed → List ℕ → ℕ → List (Line Clash)
+clashLines found m n =
+    line 5 (ltb (length m) n) (clash (clashed.Refused ShortBuffer) m)
+    ∷ line 7 (nowhere found) (clash clashed.Nowhere (cleared n m))
+    ∷ []
+
+-- Line 0: the clash that was found, and the marks of the nodes zero.
+abbrev pub clashDone : Clashed → List ℕ → ℕ → Clash
+clashDone found m n = clash found (cleared n m)
+
+abbrev pub clashTable : ℕ → ℕ → List ℕ → List ℕ → List (Line Clash)
+clashTable o k ws m = netLines (λ r. clash (clashed.Refused r) m) o k ws (clashLines (clashSearch o k ws) m (o + k))
 
 -- The clash test of a net.
 abbrev pub clashedBy : ℕ → ℕ → List ℕ → List ℕ → Clash
-clashedBy o k ws m = clashChecked o k ws m (checkNet o k ws)
+clashedBy o k ws m = call (clashTable o k ws m) (clashDone (clashSearch o k ws) m (o + k))
 
 -- The paper's number and values for each answer.
 abbrev pub clashedRow : Clashed → Row

@@ -3,7 +3,8 @@ ghost use mathlib.Core.Path.{_≡_};
 ghost use Prim.Native.Nat.{_+_, _-_, _≤_};
 ghost use lib.ListN.{length, drop};
 ghost use Rattle.theory.specs.Nets.{Net};
-ghost use Rattle.clash.specs.Table.{clash, clashNodes, clashNet, firstBoth, firstClash, clashedBy};
+ghost use Rattle.clash.specs.Table.{clash, firstBoth, clashSearch, clashLines, clashDone, clashedBy};
+ghost use Rattle.net.specs.Lines.{call};
 use net::Checked;
 use net::Refusal;
 use net::check_net;
@@ -38,7 +39,7 @@ fn search_clash(o: u32, k: u32, n: usize, words: &[u32], marks: &mut [u8]) -> Cl
     requires net { ⌜ Net o k (now words) ⌝ }
     requires size { ⌜ n ≡ o + k ⌝ }
     requires room { ⌜ n ≤ length (now marks) ⌝ }
-    ensures found { λ r. ⌜ r ≡ firstClash o k (now (words .entry)) 0 (clashNodes o k) ⌝ }
+    ensures found { λ r. ⌜ r ≡ clashSearch o k (now (words .entry)) ⌝ }
     ensures past { λ r. ⌜ drop n (now (marks .exit)) ≡ drop n (now (marks .entry)) ⌝ }
     ensures long { λ r. ⌜ length (now (marks .exit)) ≡ length (now (marks .entry)) ⌝ }
 {
@@ -59,7 +60,7 @@ fn search_clash(o: u32, k: u32, n: usize, words: &[u32], marks: &mut [u8]) -> Cl
 fn clash_net(o: u32, k: u32, n: usize, words: &[u32], marks: &mut [u8]) -> Clashed
     requires net { ⌜ Net o k (now words) ⌝ }
     requires size { ⌜ n ≡ o + k ⌝ }
-    ensures { λ r. ⌜ clash r (now (marks .exit)) ≡ clashNet o k n (now (words .entry)) (now (marks .entry)) ⌝ }
+    ensures { λ r. ⌜ clash r (now (marks .exit)) ≡ call (clashLines (clashSearch o k (now (words .entry))) (now (marks .entry)) n) (clashDone (clashSearch o k (now (words .entry))) (now (marks .entry)) n) ⌝ }
 {
     if marks.len() < n {
         return Clashed::Refused(Refusal::ShortBuffer);

@@ -1,10 +1,11 @@
 -- The paper's row tells what a completion answered.
 use mathlib.Core.Path.{_≡_, refl, sym, ap, _∙_}
 use mathlib.Core.Bool.{cond}
+use mathlib.Core.Logic.{inl, inr}
+use native.Mathlib.Omega.{arith}
 use lib.Dec.{eqb}
 use Rattle.net.specs.Table.{Row}
-use Rattle.net.specs.declared.Refusal.the-variants.{TooManyNodes, TooManyWords, IllegalWord, BadQuestion, ShortBuffer}
-use Rattle.net.proofs.Rows.{refusalAt}
+use Rattle.net.proofs.Rows.{refusalAt, refusal-at-row, refusal-not}
 use Rattle.completion.specs.Table.{completedRow}
 use Rattle.completion.specs.declared.Completed.{Completed}
 use Rattle.completion.specs.declared.Completed.the-variants.{Done, Short, Refused}
@@ -16,11 +17,7 @@ completedAt r = cond (eqb (r .number) 0) (Done (r .first)) (cond (eqb (r .number
 completed-at-row : (r : Completed) → completedAt (completedRow r) ≡ r
 completed-at-row (Done size) = refl
 completed-at-row (Short needed) = refl
-completed-at-row (Refused TooManyNodes) = refl
-completed-at-row (Refused TooManyWords) = refl
-completed-at-row (Refused (IllegalWord i)) = refl
-completed-at-row (Refused BadQuestion) = refl
-completed-at-row (Refused ShortBuffer) = refl
+completed-at-row (Refused r) = rw (refusal-not r 0 (inl refl), refusal-not r 8 (inr (omega arith)), refusal-at-row r)
 
 -- No two answers have one row.
 pub completed-row-one-to-one : (r q : Completed) → completedRow r ≡ completedRow q → r ≡ q

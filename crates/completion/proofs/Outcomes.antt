@@ -6,49 +6,33 @@ use native.Mathlib.Omega.{arith}
 use borrow.Author.Tests.{lt-ltb, le-ltb}
 use lib.ListN.{length, drop, replicate}
 use Rattle.theory_laws.specs.Over.{over}
-use Rattle.theory.specs.Completion.{complete}
-use Rattle.net.specs.declared.Refusal.{Refusal}
+use Rattle.net.specs.Lines.{call}
 use Rattle.net.specs.declared.Refusal.the-variants.{ShortBuffer}
-use Rattle.net.specs.declared.Checked.{Checked}
-use Rattle.net.specs.declared.Checked.the-variants as checked
-use Rattle.completion.specs.Table.{Completion, completion, completionNet, completionChecked}
+use Rattle.completion.specs.Table.{completion, completionLines, completionDone}
 use Rattle.completion.specs.declared.Completed.{Completed}
 use Rattle.completion.specs.declared.Completed.the-variants as completed
 
 same : {r q : Completed} {m m′ l l′ : List ℕ} → r ≡ q → m ≡ m′ → l ≡ l′ → completion r m l ≡ completion q m′ l′
 same e f g = λ i. record { answer = e i; marks = f i; list = g i }
 
-module _ (o k n : ℕ) (ws m l : List ℕ) where
+module _ (all m l : List ℕ) (n : ℕ) where
   -- Row 5.
-  pub complete-unmarked : length m < n → completion (completed.Refused ShortBuffer) m l ≡ completionNet o k n ws m l
-  unfolding completionNet
+  pub complete-unmarked : length m < n → completion (completed.Refused ShortBuffer) m l ≡ call (completionLines all m l n) (completionDone all m l n)
   complete-unmarked h = rw (lt-ltb (length m) n h)
 
   -- The code counted, and was left with the marks m₁.
-  module _ (h : n ≤ length m) (size : ℕ) (e : size ≡ length (complete o k ws)) (m₁ : List ℕ) (p : drop n m₁ ≡ drop n m) where
+  module _ (h : n ≤ length m) (size : ℕ) (e : size ≡ length all) (m₁ : List ℕ) (p : drop n m₁ ≡ drop n m) where
     -- Row 8: it cleared the marks.
-    pub complete-short : length l < size → (m₂ : List ℕ) → m₂ ≡ replicate n 0 ++ drop n m₁ → completion (completed.Short size) m₂ l ≡ completionNet o k n ws m l
-    unfolding completionNet
+    pub complete-short : length l < size → (m₂ : List ℕ) → m₂ ≡ replicate n 0 ++ drop n m₁ → completion (completed.Short size) m₂ l ≡ call (completionLines all m l n) (completionDone all m l n)
     complete-short f m₂ c =
-        let g : length l < length (complete o k ws) = omega (arith, e) in
-        rw (le-ltb (length m) n h, lt-ltb (length l) (length (complete o k ws)) g)
+        let g : length l < length all = omega (arith, e) in
+        rw (le-ltb (length m) n h, lt-ltb (length l) (length all) g)
         (same (ap completed.Short e) (c ∙ ap (λ (q : List ℕ). replicate n 0 ++ q) p) refl)
 
     -- Row 0: it wrote, was left with the marks m₂, and cleared them.
-    pub complete-done : size ≤ length l → (m₂ m₃ l₁ : List ℕ) → drop n m₂ ≡ drop n m₁ → m₃ ≡ replicate n 0 ++ drop n m₂ → l₁ ≡ over (complete o k ws) l
-        → completion (completed.Done size) m₃ l₁ ≡ completionNet o k n ws m l
-    unfolding completionNet
+    pub complete-done : size ≤ length l → (m₂ m₃ l₁ : List ℕ) → drop n m₂ ≡ drop n m₁ → m₃ ≡ replicate n 0 ++ drop n m₂ → l₁ ≡ over all l
+        → completion (completed.Done size) m₃ l₁ ≡ call (completionLines all m l n) (completionDone all m l n)
     complete-done f m₂ m₃ l₁ q c w =
-        let g : length (complete o k ws) ≤ length l = omega (arith, e) in
-        rw (le-ltb (length m) n h, le-ltb (length l) (length (complete o k ws)) g)
+        let g : length all ≤ length l = omega (arith, e) in
+        rw (le-ltb (length m) n h, le-ltb (length l) (length all) g)
         (same (ap completed.Done e) (c ∙ ap (λ (r : List ℕ). replicate n 0 ++ r) (q ∙ p)) w)
-
--- What was checked: a refusal is passed on, and a net is completed.
-module _ (o k : ℕ) (ws m l : List ℕ) {net : Checked} where
-  pub complete-refused : {r : Refusal} → net ≡ checked.Refused r → completion (completed.Refused r) m l ≡ completionChecked o k ws m l net
-  unfolding completionChecked
-  complete-refused e = rw e
-
-  pub complete-checked : {n : ℕ} {s : Completion} → net ≡ checked.Nodes n → s ≡ completionNet o k n ws m l → s ≡ completionChecked o k ws m l net
-  unfolding completionChecked
-  complete-checked e h = rw e h

@@ -1,14 +1,12 @@
--- The outcome of a completion, by the number table from top to bottom.
+-- The number table of the completion.
 use Prim.Native.Nat.{ℕ, _+_}
-use mathlib.Core.Bool.{cond}
-use mathlib.Core.List.{List, _++_}
+use mathlib.Core.List.{List, [], _∷_, _++_}
 use lib.Dec.{ltb}
 use lib.ListN.{length, drop}
 use Rattle.theory.specs.Completion.{complete}
-use Rattle.net.specs.Table.{checkNet, Row, row, refusalRow}
+use Rattle.net.specs.Lines.{Line, line, call}
+use Rattle.net.specs.Table.{netLines, Row, row, refusalRow}
 use Rattle.net.specs.declared.Refusal.the-variants.{ShortBuffer}
-use Rattle.net.specs.declared.Checked.{Checked}
-use Rattle.net.specs.declared.Checked.the-variants as checked
 use Rattle.scan_start.specs.Starts.{cleared}
 use Rattle.completion.specs.declared.Completed.{Completed}
 use Rattle.completion.specs.declared.Completed.the-variants as completed
@@ -22,26 +20,23 @@ pub record Completion : Type 0 where
 abbrev pub completion : Completed → List ℕ → List ℕ → Completion
 completion r m l = record { answer = r; marks = m; list = l }
 
--- Rows 8 and 0: the supported words `all` in front of the list, which is unchanged where it is too short.
-abbrev pub fill : List ℕ → List ℕ → List ℕ → Completion
-fill all m l =
-    cond (ltb (length l) (length all)) (completion (completed.Short (length all)) m l)
-    (completion (completed.Done (length all)) m (all ++ drop (length all) l))
+-- Lines 5 and 8 on n nodes whose supported words are `all`.
+abbrev pub completionLines : List ℕ → List ℕ → List ℕ → ℕ → List (Line Completion)
+completionLines all m l n =
+    line 5 (ltb (length m) n) (completion (completed.Refused ShortBuffer) m l)
+    ∷ line 8 (ltb (length l) (length all)) (completion (completed.Short (length all)) (cleared n m) l)
+    ∷ []
 
--- Rows 5, 8 and 0 for a net of n nodes.
-unfoldable pub completionNet : ℕ → ℕ → ℕ → List ℕ → List ℕ → List ℕ → Completion
-completionNet o k n ws m l =
-    cond (ltb (length m) n) (completion (completed.Refused ShortBuffer) m l)
-    (fill (complete o k ws) (cleared n m) l)
+-- Line 0: how many words they are, the marks of the nodes zero, and the words in front of the list.
+abbrev pub completionDone : List ℕ → List ℕ → List ℕ → ℕ → Completion
+completionDone all m l n = completion (completed.Done (length all)) (cleared n m) (all ++ drop (length all) l)
 
--- Rows 1, 2 and 3 first.
-unfoldable pub completionChecked : ℕ → ℕ → List ℕ → List ℕ → List ℕ → Checked → Completion
-completionChecked o k ws m l (checked.Nodes n) = completionNet o k n ws m l
-completionChecked o k ws m l (checked.Refused r) = completion (completed.Refused r) m l
+abbrev pub completionTable : ℕ → ℕ → List ℕ → List ℕ → List ℕ → List (Line Completion)
+completionTable o k ws m l = netLines (λ r. completion (completed.Refused r) m l) o k ws (completionLines (complete o k ws) m l (o + k))
 
 -- The completion of a net.
 abbrev pub completedBy : ℕ → ℕ → List ℕ → List ℕ → List ℕ → Completion
-completedBy o k ws m l = completionChecked o k ws m l (checkNet o k ws)
+completedBy o k ws m l = call (completionTable o k ws m l) (completionDone (complete o k ws) m l (o + k))
 
 -- The paper's number and value for each answer.
 abbrev pub completedRow : Completed → Row

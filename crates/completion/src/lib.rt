@@ -2,7 +2,9 @@
 ghost use mathlib.Core.Path.{_≡_};
 ghost use Prim.Native.Nat.{_+_};
 ghost use Rattle.theory.specs.Nets.{Net};
-ghost use Rattle.completion.specs.Table.{completion, completionNet, completedBy};
+ghost use Rattle.theory.specs.Completion.{complete};
+ghost use Rattle.completion.specs.Table.{completion, completionLines, completionDone, completedBy};
+ghost use Rattle.net.specs.Lines.{call};
 use completion_list::count_rows;
 use completion_list::write_rows;
 use net::Checked;
@@ -28,7 +30,7 @@ fn complete_checked(
 ) -> Completed
     requires net { ⌜ Net o k (now words) ⌝ }
     requires size { ⌜ n ≡ o + k ⌝ }
-    ensures { λ r. ⌜ completion r (now (marks .exit)) (now (list .exit)) ≡ completionNet o k n (now (words .entry)) (now (marks .entry)) (now (list .entry)) ⌝ }
+    ensures { λ r. ⌜ completion r (now (marks .exit)) (now (list .exit)) ≡ call (completionLines (complete o k (now (words .entry))) (now (marks .entry)) (now (list .entry)) n) (completionDone (complete o k (now (words .entry))) (now (marks .entry)) (now (list .entry)) n) ⌝ }
 {
     if marks.len() < n {
         return Completed::Refused(Refusal::ShortBuffer);

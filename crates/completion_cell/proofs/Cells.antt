@@ -7,7 +7,7 @@ use native.Mathlib.Omega.{arith}
 use lib.ListN.{length, set}
 use Rattle.theory_laws.specs.Over.{over}
 use Rattle.theory.specs.Words.{is, isnt, word}
-use Rattle.theory.specs.Marks.{T, F, has}
+use Rattle.theory.specs.Marks.{saysYes, saysNo}
 use Rattle.theory.specs.Completion.{cell}
 use Rattle.theory.proofs.Bytes.{has-T, no-T, has-F, no-F}
 
@@ -27,37 +27,37 @@ both-length true false v w = refl
 both-length false true v w = refl
 both-length false false v w = refl
 
--- How a marker counts.
-count-T : (b : ℕ) → cond (has T b) 1 0 ≡ b % 2
-count-T b = at (b % 2) refl
+-- How a yes and a no count.
+count-yes : (b : ℕ) → cond (saysYes b) 1 0 ≡ b % 2
+count-yes b = at (b % 2) refl
   where
-    at : (q : ℕ) → b % 2 ≡ q → cond (has T b) 1 0 ≡ b % 2
+    at : (q : ℕ) → b % 2 ≡ q → cond (saysYes b) 1 0 ≡ b % 2
     at zero e = rw (no-T b (λ (i : b % 2 ≡ 1). omega arith)) (omega arith)
     at (suc q) e = rw (has-T b (omega arith)) (omega arith)
 
-count-F : (b : ℕ) → cond (has F b) 1 0 ≡ b / 2 % 2
-count-F b = at (b / 2 % 2) refl
+count-no : (b : ℕ) → cond (saysNo b) 1 0 ≡ b / 2 % 2
+count-no b = at (b / 2 % 2) refl
   where
-    at : (q : ℕ) → b / 2 % 2 ≡ q → cond (has F b) 1 0 ≡ b / 2 % 2
+    at : (q : ℕ) → b / 2 % 2 ≡ q → cond (saysNo b) 1 0 ≡ b / 2 % 2
     at zero e = rw (no-F b (λ (i : b / 2 % 2 ≡ 1). omega arith)) (omega arith)
     at (suc q) e = rw (has-F b (omega arith)) (omega arith)
 
 module _ (x y b : ℕ) where
   -- How many words they are.
   pub cell-length : length (cell x y b) ≡ b % 2 + b / 2 % 2
-  cell-length = both-length (has T b) (has F b) (word x y is) (word x y isnt) ∙ ap (λ (i : ℕ). i + cond (has F b) 1 0) (count-T b) ∙ ap (λ (i : ℕ). b % 2 + i) (count-F b)
+  cell-length = both-length (saysYes b) (saysNo b) (word x y is) (word x y isnt) ∙ ap (λ (i : ℕ). i + cond (saysNo b) 1 0) (count-yes b) ∙ ap (λ (i : ℕ). b % 2 + i) (count-no b)
 
-  -- They are these, by the two markers.
-  cell-as : (p q : Bool) → has T b ≡ p → has F b ≡ q → cell x y b ≡ cond p ((x * 2048 + y * 2) ∷ []) [] ++ cond q ((x * 2048 + y * 2 + 1) ∷ []) []
+  -- They are these, by what the byte says.
+  cell-as : (p q : Bool) → saysYes b ≡ p → saysNo b ≡ q → cell x y b ≡ cond p ((x * 2048 + y * 2) ∷ []) [] ++ cond q ((x * 2048 + y * 2 + 1) ∷ []) []
   cell-as p q t f =
       let first : word x y is ≡ x * 2048 + y * 2 = omega arith in
-      ap (λ (r : Bool). cond r (word x y is ∷ []) [] ++ cond (has F b) (word x y isnt ∷ []) []) t
+      ap (λ (r : Bool). cond r (word x y is ∷ []) [] ++ cond (saysNo b) (word x y isnt ∷ []) []) t
       ∙ ap (λ (r : Bool). cond p (word x y is ∷ []) [] ++ cond r (word x y isnt ∷ []) []) f
       ∙ ap (λ (i : ℕ). cond p (i ∷ []) [] ++ cond q (word x y isnt ∷ []) []) first
 
   -- What the code leaves of the list l.
   module _ (l : List ℕ) (h : length (cell x y b) ≤ length l) where
-    leaves : (p q : Bool) (l′ : List ℕ) → has T b ≡ p → has F b ≡ q → l′ ≡ over (cond p ((x * 2048 + y * 2) ∷ []) [] ++ cond q ((x * 2048 + y * 2 + 1) ∷ []) []) l → l′ ≡ over (cell x y b) l
+    leaves : (p q : Bool) (l′ : List ℕ) → saysYes b ≡ p → saysNo b ≡ q → l′ ≡ over (cond p ((x * 2048 + y * 2) ∷ []) [] ++ cond q ((x * 2048 + y * 2 + 1) ∷ []) []) l → l′ ≡ over (cell x y b) l
     leaves p q l′ t f e = e ∙ ap (λ (r : List ℕ). over r l) (sym (cell-as p q t f))
 
     pub write-both : b % 2 ≡ 1 → b / 2 % 2 ≡ 1 → (2 ≡ length (cell x y b)) × (set (set l 0 (x * 2048 + y * 2)) 1 (x * 2048 + y * 2 + 1) ≡ over (cell x y b) l)

@@ -3,7 +3,8 @@ use Prim.Native.Nat.{ℕ, zero, suc, _+_, _-_, _*_, _/_, _%_, _≤_, _<_}
 use mathlib.Core.Path.{_≡_, refl, sym, ap, _∙_}
 use mathlib.Core.List.{List, [], _++_, append-assoc, append-nil}
 use native.Mathlib.Omega.{arith}
-use lib.ListN.{length, getD, length-append, List·getD-append}
+use lib.ListN.{length, getD, take, length-append}
+use lib.Seq.{getD-take}
 use Rattle.theory.specs.Completion.{cell, row}
 use Rattle.completion_cell.proofs.Cells.{cell-length}
 
@@ -37,11 +38,10 @@ unfolding row
 row-one x m y = append-nil (cell x y (getD m y 0))
 
 -- Bytes past the nodes play no part.
-pub row-frame : (x : ℕ) (a past : List ℕ) (y j : ℕ) → y + j ≤ length a → row x (a ++ past) y j ≡ row x a y j
+pub row-frame : (x : ℕ) (m : List ℕ) (n y j : ℕ) → y + j ≤ n → row x (take n m) y j ≡ row x m y j
 unfolding row
-row-frame x a past y zero h = refl
-row-frame x a past y (suc j) h =
-    rw (List·getD-append a past 0 y (omega arith)) (ap (λ (q : List ℕ). cell x y (getD a y 0) ++ q) (row-frame x a past (suc y) j (omega arith)))
+row-frame x m n y zero h = refl
+row-frame x m n y (suc j) h = rw (getD-take n m y 0 (omega arith)) (ap (λ (q : List ℕ). cell x y (getD m y 0) ++ q) (row-frame x m n (suc y) j (omega arith)))
 
 module _ (x : ℕ) (m : List ℕ) (o : ℕ) where
   pub row-none : row x m o (o - o) ≡ []

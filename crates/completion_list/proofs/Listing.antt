@@ -1,27 +1,21 @@
 -- Rows taken in parts, in the terms of loops that have come to node x.
-use Prim.Native.Nat.{ℕ, zero, suc, _+_, _-_, _*_, _≤_, _<_}
+use Prim.Native.Nat.{ℕ, zero, suc, _+_, _-_, _≤_, _<_}
 use mathlib.Core.Path.{_≡_, refl, sym, ap, _∙_}
 use mathlib.Core.List.{List, [], _++_, append-assoc, append-nil}
 use native.Mathlib.Omega.{arith}
 use native.Mathlib.Numerals.{add-one}
-use lib.ListN.{length, drop, length-append}
-use Rattle.theory.specs.Nets.{Net}
-use Rattle.theory.specs.Scans.{forwardScan}
+use lib.ListN.{length, take, length-append}
+use Rattle.theory.specs.Scans.{fullScan}
 use Rattle.theory.specs.Completion.{fullMarks, row, rows, complete}
-use Rattle.question.proofs.FullScans.{full-long}
 use Rattle.completion_cell.proofs.Rows.{row-length, row-frame}
 
--- The row, read off the marks that the code has.
-pub read-row : (o k n : ℕ) (ws : List ℕ) (net : Net o k ws) (e : n ≡ o + k) (x : ℕ) (h : x < n) (m m′ : List ℕ) → m′ ≡ forwardScan n ws x (2 * n) .marks ++ drop n m
-    → (z : ℕ) → row z m′ o (n - o) ≡ row z (fullMarks o k ws x) o k
-read-row o k n ws net e x h m m′ l z =
-    let marks : List ℕ = forwardScan n ws x (2 * n) .marks in
+-- The row of z, read off the marks m that the code has after a scan from x.
+pub read-row : (o k n : ℕ) (ws : List ℕ) (x : ℕ) (m : List ℕ) → n ≡ o + k → take n m ≡ fullScan n ws x .marks → (z : ℕ) → row z m o (n - o) ≡ row z (fullMarks o k ws x) o k
+read-row o k n ws x m e l z =
     let a : n - o ≡ k = omega arith in
-    let b : o + (n - o) ≤ length marks = omega (arith, full-long o k n ws net e x h) in
-    ap (λ (q : List ℕ). row z q o (n - o)) l
-    ∙ row-frame z marks (drop n m) o (n - o) b
-    ∙ ap (row z marks o) a
-    ∙ ap (λ (i : ℕ). row z (forwardScan i ws x (2 * i) .marks) o k) e
+    sym (row-frame z m n o (n - o) (omega arith))
+    ∙ ap (λ (q : List ℕ). row z q o (n - o)) (l ∙ ap (λ (i : ℕ). fullScan i ws x .marks) e)
+    ∙ ap (row z (fullMarks o k ws x) o) a
 
 module _ (o k : ℕ) (ws : List ℕ) where
   rows-split : (x i j : ℕ) → rows o k ws x (i + j) ≡ rows o k ws x i ++ rows o k ws (x + i) j

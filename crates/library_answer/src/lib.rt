@@ -6,12 +6,12 @@ ghost use Rattle.clash.specs.Table.{clashedRow};
 ghost use Rattle.completion.specs.Table.{completedRow};
 ghost use Rattle.reason.specs.Table.{reasonedRow};
 ghost use Rattle.reason_check.specs.Table.{verdictRow};
-ghost use Rattle.library_row.specs.Given.{given, Fits};
+ghost use Rattle.library_row.specs.Fits.{Fits};
 use clash::Clashed;
 use completion::Completed;
-use library_row::Given;
-use library_row::refusal_given;
-use library_row::row_of;
+use net::Row;
+use net::refusal_given;
+use net::row_of;
 use question::Answer;
 use question::Asked;
 use reason::Reasoned;
@@ -19,9 +19,8 @@ use reason_check::Verdict;
 use scan::Scanned;
 
 // The row of a scan.
-pub fn scanned_given(scanned: Scanned) -> Given
-    requires { ⌜ Fits (scanRow scanned) ⌝ }
-    ensures { λ r. ⌜ given r ≡ scanRow scanned ⌝ }
+pub fn scanned_given(scanned: Scanned) -> Row
+    ensures { λ r. ⌜ r ≡ scanRow scanned ⌝ }
 {
     match scanned {
         Scanned::Done(count) => row_of(0, count, 0),
@@ -43,9 +42,8 @@ fn answer_number(answer: Answer) -> u32
 }
 
 // The row of a question.
-pub fn asked_given(asked: Asked) -> Given
-    requires { ⌜ Fits (askedRow asked) ⌝ }
-    ensures { λ r. ⌜ given r ≡ askedRow asked ⌝ }
+pub fn asked_given(asked: Asked) -> Row
+    ensures { λ r. ⌜ r ≡ askedRow asked ⌝ }
 {
     match asked {
         Asked::Done(answer, count) => row_of(0, answer_number(answer), count),
@@ -54,9 +52,9 @@ pub fn asked_given(asked: Asked) -> Given
 }
 
 // The row of a clash test.
-pub fn clashed_given(clashed: Clashed) -> Given
+pub fn clashed_given(clashed: Clashed) -> Row
     requires { ⌜ Fits (clashedRow clashed) ⌝ }
-    ensures { λ r. ⌜ given r ≡ clashedRow clashed ⌝ }
+    ensures { λ r. ⌜ r ≡ clashedRow clashed ⌝ }
 {
     match clashed {
         Clashed::At(x, y) => row_of(0, x as u32, y as u32),
@@ -66,9 +64,9 @@ pub fn clashed_given(clashed: Clashed) -> Given
 }
 
 // The row of a completion.
-pub fn completed_given(completed: Completed) -> Given
+pub fn completed_given(completed: Completed) -> Row
     requires { ⌜ Fits (completedRow completed) ⌝ }
-    ensures { λ r. ⌜ given r ≡ completedRow completed ⌝ }
+    ensures { λ r. ⌜ r ≡ completedRow completed ⌝ }
 {
     match completed {
         Completed::Done(size) => row_of(0, size as u32, 0),
@@ -78,22 +76,20 @@ pub fn completed_given(completed: Completed) -> Given
 }
 
 // The row of a reason.
-pub fn reasoned_given(reasoned: Reasoned) -> Given
-    requires { ⌜ Fits (reasonedRow reasoned) ⌝ }
-    ensures { λ r. ⌜ given r ≡ reasonedRow reasoned ⌝ }
+pub fn reasoned_given(reasoned: Reasoned) -> Row
+    ensures { λ r. ⌜ r ≡ reasonedRow reasoned ⌝ }
 {
     match reasoned {
-        Reasoned::Done(places) => row_of(0, places as u32, 0),
+        Reasoned::Done(places) => row_of(0, places, 0),
         Reasoned::Unsupported => row_of(7, 0, 0),
-        Reasoned::Short(needed) => row_of(8, needed as u32, 0),
+        Reasoned::Short(needed) => row_of(8, needed, 0),
         Reasoned::Refused(refusal) => refusal_given(refusal),
     }
 }
 
 // The row of the check of a reason.
-pub fn verdict_given(verdict: Verdict) -> Given
-    requires { ⌜ Fits (verdictRow verdict) ⌝ }
-    ensures { λ r. ⌜ given r ≡ verdictRow verdict ⌝ }
+pub fn verdict_given(verdict: Verdict) -> Row
+    ensures { λ r. ⌜ r ≡ verdictRow verdict ⌝ }
 {
     match verdict {
         Verdict::Holds => row_of(0, 1, 0),

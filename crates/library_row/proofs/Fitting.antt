@@ -4,15 +4,18 @@ use mathlib.Core.Path.{_≡_, refl, sym, subst}
 use mathlib.Core.Bool.{Bool, true, false, cond}
 use mathlib.Core.List.{List}
 use native.Mathlib.Omega.{arith}
+use borrow.Author.Tests.{ltb-true, ltb-false}
+use lib.Dec.{ltb}
+use lib.ListN.{length}
+use Rattle.theory.specs.Words.{nodeLimit, wordLimit}
+use Rattle.net.specs.Legal.{legalPrefix}
 use Rattle.net.specs.Lines.{Line, call}
 use Rattle.net.proofs.OnNet.{given, on-net}
 use Rattle.net.specs.Table.{Row, row, netLines, checkNet, checkedRow, refusalRow}
 use Rattle.net.specs.declared.Refusal.{Refusal}
-use Rattle.net.specs.declared.Refusal.the-variants.{TooManyNodes, TooManyWords, IllegalWord, BadQuestion, ShortBuffer}
 use Rattle.net.specs.declared.Checked.{Checked}
 use Rattle.net.specs.declared.Checked.the-variants.{Nodes, Refused}
-use Rattle.net.proofs.NetCheck.{check-is-net, illegal-word-exactly}
-use Rattle.library_row.specs.Given.{Fits}
+use Rattle.library_row.specs.Fits.{Fits}
 
 -- A row that fits on both sides of a test fits after it.
 pub either : {A : Type 0} (f : A → Row) (t : Bool) {u v : A} → (t ≡ true → Fits (f u)) → (t ≡ false → Fits (f v)) → Fits (f (cond t u v))
@@ -27,24 +30,26 @@ fits h i = record { first = h; second = i }
 pub bare : {n : ℕ} → Fits (row n 0 0)
 bare = fits (omega arith) (omega arith)
 
-module _ (o k : ℕ) (ws : List ℕ) where
-  answer-fits : (net : Checked) → checkNet o k ws ≡ net → Fits (checkedRow net)
-  answer-fits (Nodes n) e = let t = check-is-net o k ws n e in fits (omega (arith, t .0, t .1 .few)) (omega arith)
-  answer-fits (Refused TooManyNodes) e = bare
-  answer-fits (Refused TooManyWords) e = bare
-  answer-fits (Refused (IllegalWord i)) e = let t = illegal-word-exactly o k ws i .0 e in fits (omega (arith, t .1, t .2 .below)) (omega arith)
-  answer-fits (Refused BadQuestion) e = bare
-  answer-fits (Refused ShortBuffer) e = bare
+-- Equal answers have one row, where f gives the rows.
+pub carry-fits : {A : Type 0} (f : A → Row) {a v : A} → a ≡ v → Fits (f a) → Fits (f v)
+carry-fits {A} f e = subst (λ (u : A). Fits (f u)) e
 
+module _ (o k : ℕ) (ws : List ℕ) where
   -- The check of a net: it has at most 1,024 nodes, and an illegal word stands below the limit of words.
   pub checked-fits : Fits (checkedRow (checkNet o k ws))
-  checked-fits = answer-fits (checkNet o k ws) refl
+  unfolding checkNet
+  checked-fits =
+      either checkedRow (ltb nodeLimit (o + k)) (λ _. bare)
+      (λ few. either checkedRow (ltb wordLimit (length ws)) (λ _. bare)
+      (λ short. either checkedRow (ltb (legalPrefix o (o + k) ws) (length ws))
+      (λ stops. fits (omega (arith, ltb-false wordLimit (length ws) short, ltb-true (legalPrefix o (o + k) ws) (length ws) stops)) (omega arith))
+      (λ _. fits (omega (arith, ltb-false nodeLimit (o + k) few)) (omega arith))))
 
   -- An operation that passes refusals on has a row that fits, if it has one for every net.
   module _ (f : Checked → Row) (passed : (r : Refusal) → f (Refused r) ≡ refusalRow r) (nets : (n : ℕ) → checkNet o k ws ≡ Nodes n → Fits (f (Nodes n))) where
     row-fits : (net : Checked) → checkNet o k ws ≡ net → Fits (f net)
     row-fits (Nodes n) e = nets n e
-    row-fits (Refused r) e = subst Fits (sym (passed r)) (answer-fits (Refused r) e)
+    row-fits (Refused r) e = subst Fits (sym (passed r)) (carry-fits checkedRow e checked-fits)
 
     pub operation-fits : Fits (f (checkNet o k ws))
     operation-fits = row-fits (checkNet o k ws) refl

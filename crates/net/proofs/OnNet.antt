@@ -10,7 +10,6 @@ use Rattle.net.specs.Legal.{legalPrefix}
 use Rattle.net.specs.Lines.{Line, call}
 use Rattle.net.specs.Table.{netLines, checkNet}
 use Rattle.net.specs.declared.Refusal.{Refusal}
-use Rattle.net.specs.declared.Refusal.the-variants.{TooManyNodes, TooManyWords, IllegalWord}
 use Rattle.net.specs.declared.Checked.{Checked}
 use Rattle.net.specs.declared.Checked.the-variants.{Nodes, Refused}
 
@@ -22,15 +21,15 @@ module _ {A : Type 0} (refused : Refusal → A) (o k : ℕ) (ws : List ℕ) (lin
 
   pub on-net : given (checkNet o k ws) ≡ call (netLines refused o k ws (lines (o + k))) (done (o + k))
   unfolding checkNet
-  on-net = at (ltb nodeLimit (o + k)) (ltb wordLimit (length ws)) (ltb (legalPrefix o (o + k) ws) (length ws))
+  on-net = at (ltb nodeLimit (o + k)) (ltb wordLimit (length ws)) (ltb (legalPrefix o (o + k) ws) (length ws)) _ _ _
     where
-      at : (a b c : Bool)
-          → given (cond a (Refused TooManyNodes) (cond b (Refused TooManyWords) (cond c (Refused (IllegalWord (legalPrefix o (o + k) ws))) (Nodes (o + k)))))
-          ≡ cond a (refused TooManyNodes) (cond b (refused TooManyWords) (cond c (refused (IllegalWord (legalPrefix o (o + k) ws))) (call (lines (o + k)) (done (o + k)))))
-      at true b c = refl
-      at false true c = refl
-      at false false true = refl
-      at false false false = refl
+      at : (a b c : Bool) (p q r : Refusal)
+          → given (cond a (Refused p) (cond b (Refused q) (cond c (Refused r) (Nodes (o + k)))))
+          ≡ cond a (refused p) (cond b (refused q) (cond c (refused r) (call (lines (o + k)) (done (o + k)))))
+      at true b c p q r = refl
+      at false true c p q r = refl
+      at false false true p q r = refl
+      at false false false p q r = refl
 
   -- A refused net is passed on.
   pub passed-on : {r : Refusal} → checkNet o k ws ≡ Refused r → refused r ≡ call (netLines refused o k ws (lines (o + k))) (done (o + k))

@@ -9,6 +9,7 @@ use Rattle.net.specs.Legal.{legalPrefix}
 use Rattle.net.specs.Lines.{Line, line, call}
 use Rattle.net.specs.declared.Refusal.{Refusal}
 use Rattle.net.specs.declared.Refusal.the-variants.{TooManyNodes, TooManyWords, IllegalWord, BadQuestion, ShortBuffer}
+use Rattle.net.specs.declared.Row as struct
 use Rattle.net.specs.declared.Checked.{Checked}
 use Rattle.net.specs.declared.Checked.the-variants.{Nodes, Refused}
 
@@ -25,8 +26,11 @@ netLines refused o k ws rest =
 abbrev pub netTable : ℕ → ℕ → List ℕ → List (Line Checked)
 netTable o k ws = netLines Refused o k ws []
 
+abbrev pub netDone : ℕ → ℕ → Checked
+netDone o k = Nodes (o + k)
+
 unfoldable pub checkNet : ℕ → ℕ → List ℕ → Checked
-checkNet o k ws = call (netTable o k ws) (Nodes (o + k))
+checkNet o k ws = call (netTable o k ws) (netDone o k)
 
 -- Row 4 for a statement about x and y in a net of n nodes: x is no node, or y is no kind.
 abbrev pub badPair : ℕ → ℕ → ℕ → ℕ → Bool
@@ -37,10 +41,8 @@ abbrev pub badStatement : ℕ → ℕ → ℕ → ℕ → ℕ → Bool
 badStatement o n x y sign = badPair o n x y || ltb 1 sign
 
 -- An answer as a row of the number table: its number and up to two values, 0 where neither the paper nor this project names one.
-pub record Row : Type 0 where
-  pub number : ℕ
-  pub first : ℕ
-  pub second : ℕ
+abbrev pub Row : Type 0
+Row = struct.Row
 
 abbrev pub row : ℕ → ℕ → ℕ → Row
 row n a b = record { number = n; first = a; second = b }

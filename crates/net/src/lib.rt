@@ -1,16 +1,24 @@
-// A link word's parts, the test of one word, and the check of a net: rows 1, 2 and 3 of the number table, in that order; the tests of row 4 for a statement; the refusals of rows 1 to 5.
+// A link word's parts, the test of one word, and the check of a net: rows 1, 2 and 3 of the number table, in that order; the tests of row 4 for a statement; the refusals of rows 1 to 5, and a row as a struct.
 ghost use mathlib.Core.Path.{_≡_};
 ghost use Rattle.theory.specs.Words.{tailOf, headOf};
 ghost use Rattle.net.specs.Legal.{legal, legalPrefix};
-ghost use Rattle.net.specs.Table.{checkNet, badPair, badStatement};
+ghost use Rattle.net.specs.Table.{checkNet, badPair, badStatement, row, refusalRow};
 
 // The refusals that every operation passes on unchanged: rows 1 to 5.
 pub enum Refusal {
     TooManyNodes,
     TooManyWords,
-    IllegalWord(usize),
+    IllegalWord(u32),
     BadQuestion,
     ShortBuffer,
+}
+
+// A row of the number table.
+#[repr(C)]
+pub struct Row {
+    pub number: u32,
+    pub first: u32,
+    pub second: u32,
 }
 
 // What the check of a net answers: the number of its nodes, or a refusal.
@@ -81,7 +89,7 @@ pub fn check_net(o: u32, k: u32, words: &[u32]) -> Checked
     }
     let i = first_illegal(objects, n, words);
     if i < words.len() {
-        return Checked::Refused(Refusal::IllegalWord(i));
+        return Checked::Refused(Refusal::IllegalWord(i as u32));
     }
     Checked::Nodes(n)
 }
@@ -109,4 +117,28 @@ pub fn is_bad_statement(o: u32, n: usize, x: u32, y: u32, sign: u32) -> bool
         return true;
     }
     1 < sign
+}
+
+// The row of a number and its two values.
+pub fn row_of(number: u32, first: u32, second: u32) -> Row
+    ensures { λ r. ⌜ r ≡ row number first second ⌝ }
+{
+    Row {
+        number: number,
+        first: first,
+        second: second,
+    }
+}
+
+// The row of a refusal.
+pub fn refusal_given(refusal: Refusal) -> Row
+    ensures { λ r. ⌜ r ≡ refusalRow refusal ⌝ }
+{
+    match refusal {
+        Refusal::TooManyNodes => row_of(1, 0, 0),
+        Refusal::TooManyWords => row_of(2, 0, 0),
+        Refusal::IllegalWord(index) => row_of(3, index, 0),
+        Refusal::BadQuestion => row_of(4, 0, 0),
+        Refusal::ShortBuffer => row_of(5, 0, 0),
+    }
 }

@@ -1,13 +1,14 @@
 -- The paper's row tells which answer of the reader it is, and which of an entry; a closed entry's row is the reader's.
-use Prim.Native.Nat.{ℕ, zero, suc, _≤_}
+use Prim.Native.Nat.{ℕ, zero, suc}
 use mathlib.Core.Path.{_≡_, refl, sym, ap, _∙_}
+use mathlib.Core.Bool.{false}
 use mathlib.Core.List.{List}
 use lib.ListN.{length}
 use Rattle.net.specs.Table.{Row}
-use Rattle.netfile_entry.specs.Entries.{entryAt}
+use Rattle.netfile_entry.specs.Entries.{contentsSize, entryAt}
 use Rattle.netfile_entry.specs.declared.Entry.{Entry}
 use Rattle.netfile_entry.specs.declared.Entry.the-variants.{Open, Closed}
-use Rattle.netfile.specs.Contents.{fileLimit, contentsOf, contentsRow, entryRow}
+use Rattle.netfile.specs.Contents.{wrongSize, contentsOf, contentsRow, entryRow}
 use Rattle.netfile.specs.declared.Contents.{Contents}
 use Rattle.netfile.specs.declared.Contents.the-variants.{Bodies, Malformed}
 use Rattle.netfile.proofs.Reading.{first-closed, second-closed, third-closed}
@@ -45,13 +46,13 @@ pub entry-row-one-to-one : (n : ℕ) (c d : Entry) → entryRow n c ≡ entryRow
 entry-row-one-to-one n c d e = sym (entry-at-row n c) ∙ ap entryAtRow e ∙ entry-at-row n d
 
 -- An entry that cannot be opened ends the reading with its own row.
-module _ (s : List ℕ) (low : 24 ≤ length s) (high : length s ≤ fileLimit) where
-  pub first-row : entryAt s 0 24 ≡ Closed → contentsRow (contentsOf s) ≡ entryRow 0 Closed
-  first-row e = ap contentsRow (sym (first-closed s low high _ refl e))
+module _ (s : List ℕ) (z : wrongSize (length s) ≡ false) where
+  pub first-row : entryAt s 0 contentsSize ≡ Closed → contentsRow (contentsOf s) ≡ entryRow 0 Closed
+  first-row e = ap contentsRow (first-closed s z _ refl e _ _ _)
 
-  pub second-row : {a d : ℕ} → entryAt s 0 24 ≡ Open a d → entryAt s 1 d ≡ Closed → contentsRow (contentsOf s) ≡ entryRow 1 Closed
-  second-row e f = ap contentsRow (sym (second-closed s low high _ _ _ refl e _ refl f))
+  pub second-row : {a d : ℕ} → entryAt s 0 contentsSize ≡ Open a d → entryAt s 1 d ≡ Closed → contentsRow (contentsOf s) ≡ entryRow 1 Closed
+  second-row e f = ap contentsRow (second-closed s z _ _ _ refl e _ refl f _ _ _)
 
-  pub third-row : {a d a′ d′ : ℕ} → entryAt s 0 24 ≡ Open a d → entryAt s 1 d ≡ Open a′ d′ → entryAt s 2 d′ ≡ Closed
+  pub third-row : {a d a′ d′ : ℕ} → entryAt s 0 contentsSize ≡ Open a d → entryAt s 1 d ≡ Open a′ d′ → entryAt s 2 d′ ≡ Closed
       → contentsRow (contentsOf s) ≡ entryRow 2 Closed
-  third-row e f g = ap contentsRow (sym (third-closed s low high _ _ _ refl e _ _ _ refl f _ refl g))
+  third-row e f g = ap contentsRow (third-closed s z _ _ _ refl e _ _ _ refl f _ refl g _ _ _)

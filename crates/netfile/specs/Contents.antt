@@ -1,41 +1,15 @@
--- The net file: its contents, the stretches that its bodies are, and the rows of the reader and of an entry.
+-- The net file, read entry by entry: its contents, the stretches that its bodies are, and the rows of the reader and of an entry.
 use Prim.Native.Nat.{ℕ, _-_}
-use mathlib.Core.Bool.{cond, _||_}
+use mathlib.Core.Bool.{Bool, cond, _||_}
 use mathlib.Core.List.{List, [], _∷_}
 use lib.Dec.{ltb}
 use lib.ListN.{length, take, drop}
 use Rattle.net.specs.Table.{Row, row}
-use Rattle.netfile_entry.specs.Entries.{entryAt}
+use Rattle.netfile_entry.specs.Entries.{contentsSize, entryAt}
 use Rattle.netfile_entry.specs.declared.Entry.{Entry}
 use Rattle.netfile_entry.specs.declared.Entry.the-variants.{Open, Closed}
 use Rattle.netfile.specs.declared.Contents.{Contents}
 use Rattle.netfile.specs.declared.Contents.the-variants.{Bodies, Malformed}
-
--- The largest file.
-abbrev pub fileLimit : ℕ
-fileLimit = 32768
-
--- Each entry starts where the one before it ends; the first that cannot be opened ends the reading with its place.
-abbrev pub withThird : Entry → Contents
-withThird (Open a e) = Bodies a
-withThird Closed = Malformed 2
-
-abbrev pub withSecond : List ℕ → Entry → Contents
-withSecond s (Open a e) = withThird (entryAt s 2 e)
-withSecond s Closed = Malformed 1
-
-abbrev pub withFirst : List ℕ → Entry → Contents
-withFirst s (Open a e) = withSecond s (entryAt s 1 e)
-withFirst s Closed = Malformed 0
-
--- The contents of a file: where the words end and the questions start, or the place of a 9.
-unfoldable pub contentsOf : List ℕ → Contents
-contentsOf s = cond (ltb (length s) 24 || ltb fileLimit (length s)) (Malformed 3) (withFirst s (entryAt s 0 24))
-
--- The three bodies, as stretches of the file: o and k, the words, the questions. Those of a malformed file are empty.
-unfoldable pub bodiesOf : List ℕ → Contents → List (List ℕ)
-bodiesOf s (Bodies e) = take 8 (drop 24 s) ∷ take (e - 32) (drop 32 s) ∷ drop e s ∷ []
-bodiesOf s (Malformed p) = [] ∷ [] ∷ [] ∷ []
 
 -- The paper's number for each answer of the reader and for entry n, with its values: with 9 the place; with 0, where the paper names none, the
 -- end of the words, and an entry's start and end.
@@ -46,3 +20,49 @@ contentsRow (Malformed place) = row 9 place 0
 abbrev pub entryRow : ℕ → Entry → Row
 entryRow n (Open a e) = row 0 a e
 entryRow n Closed = row 9 n 0
+
+-- The largest file.
+abbrev pub fileLimit : ℕ
+fileLimit = 32768
+
+-- A size that the contents do not fit in, or above the limit.
+abbrev pub wrongSize : ℕ → Bool
+wrongSize size = ltb size contentsSize || ltb fileLimit size
+
+-- After entry n: `next` gets the start and the end of its body. One that cannot be opened ends the reading, and `wrong` gets the place in its row.
+abbrev pub readOn : {A : Type 0} → (ℕ → A) → ℕ → (ℕ → ℕ → A) → Entry → A
+readOn wrong n next (Open a e) = next a e
+readOn wrong n next Closed = wrong (entryRow n Closed .first)
+
+-- The same of a file whose body n has to start at `from`.
+abbrev pub withEntry : {A : Type 0} → (ℕ → A) → List ℕ → ℕ → ℕ → (ℕ → ℕ → A) → A
+withEntry wrong s n from next = readOn wrong n next (entryAt s n from)
+
+-- A file, whatever is to be said of it: each body starts where the one before it ends, the first behind the contents. `right` gets the start and
+-- the end of each body, `wrong` the place of a 9.
+unfoldable pub entriesOf : {A : Type 0} → (ℕ → A) → (ℕ → ℕ → ℕ → ℕ → ℕ → ℕ → A) → List ℕ → A
+entriesOf wrong right s =
+    cond (wrongSize (length s)) (wrong 3)
+    (withEntry wrong s 0 contentsSize (λ a e.
+    withEntry wrong s 1 e (λ b f.
+    withEntry wrong s 2 f (λ c g.
+    right a e b f c g))))
+
+-- The contents of a file: where the words end and the questions start, or the place of a 9.
+abbrev pub contentsOf : List ℕ → Contents
+contentsOf s = entriesOf Malformed (λ a e b f c g. Bodies c) s
+
+-- The stretch of a file from a start to an end.
+abbrev pub stretch : List ℕ → ℕ → ℕ → List ℕ
+stretch s a e = take (e - a) (drop a s)
+
+-- The three bodies, each the stretch between its entry's start and end: o and k, the words, the questions.
+abbrev pub cut : List ℕ → ℕ → ℕ → ℕ → ℕ → ℕ → ℕ → List (List ℕ)
+cut s a e b f c g = stretch s a e ∷ stretch s b f ∷ stretch s c g ∷ []
+
+-- Those of a malformed file are empty.
+abbrev pub noBodies : List (List ℕ)
+noBodies = [] ∷ [] ∷ [] ∷ []
+
+abbrev pub bodiesOf : List ℕ → List (List ℕ)
+bodiesOf s = entriesOf (λ place. noBodies) (cut s) s

@@ -2,7 +2,7 @@
 ghost use Prim.Native.Nat.{_<_, _≤_};
 ghost use mathlib.Core.Path.{_≡_};
 ghost use lib.ListN.{length};
-ghost use Rattle.netfile_entry.specs.Entries.{rightLength, rightEnd, entryAt};
+ghost use Rattle.netfile_entry.specs.Entries.{contentsSize, rightLength, rightEnd, entryAt};
 use netfile_numbers::u32_at;
 
 // An entry of the contents: the start and the end of its body, or that it cannot be opened.
@@ -27,7 +27,7 @@ fn right_end(n: usize, end: usize, size: usize) -> bool
 
 // Entry `n`, whose body has to start at `from`. The end is added wider than the four bytes of its parts.
 pub fn open_entry(file: &[u8], n: usize, from: usize) -> Entry
-    requires { ⌜ (n < 3) × (24 ≤ length (now file)) ⌝ }
+    requires { ⌜ (n < 3) × (contentsSize ≤ length (now file)) ⌝ }
     ensures { λ r. ⌜ r ≡ entryAt (now (file .entry)) n from ⌝ }
 {
     let start = u32_at(file, n * 8) as usize;

@@ -1,22 +1,21 @@
 -- What a call that was not refused was: over a net, from a node or a kind, and with the marks and the count of its scan.
-use Prim.Native.Nat.{ℕ, _+_, _*_, _<_}
+use Prim.Native.Nat.{ℕ, _+_, _<_}
 use mathlib.Core.Path.{_≡_, sym, ap, _∙_}
-use mathlib.Core.Bool.{Bool, true, false, _||_}
+use mathlib.Core.Bool.{Bool, true, false}
 use mathlib.Core.List.{List, _++_}
 use native.Mathlib.Omega.{arith}
 use lib.ListN.{length, getD, drop, List·getD-append}
-use lib.Dec.{ltb, leb}
-use borrow.Author.Tests.{leb-false, ltb-false, not-false, not-true}
-use Rattle.theory_laws.proofs.Booleans.{or-none-left, or-none-right}
+use borrow.Author.Tests.{leb-false, not-false, not-true}
 use Rattle.theory.specs.Nets.{Kind, Net}
 use Rattle.theory.specs.Marks.{forward, kindly, forwardStart, kindStart}
-use Rattle.theory.specs.Scans.{after, rounds, forwardScan, kindScan}
+use Rattle.theory.specs.Scans.{after, rounds, forwardScan, fullScan, kindScan}
 use Rattle.theory.specs.declared.Command.{Command}
 use Rattle.theory.proofs.Inside.{legal-inside}
 use Rattle.theory.proofs.Growth.{Puts}
 use Rattle.theory.proofs.Starts.{forward-long, kind-long, forward-puts-8, kindly-puts-8}
 use Rattle.theory.proofs.Budgets.{spent-marks}
 use Rattle.theory.proofs.Bounds.{scan-long}
+use Rattle.net.proofs.Good.{good-pair, good-kind}
 use Rattle.scan.specs.Table.{Outcome, forwardScanned, kindScanned, scanRow}
 use Rattle.scan.specs.declared.Scanned.{Scanned}
 use Rattle.scan.specs.declared.Scanned.the-variants as scanned
@@ -25,7 +24,7 @@ use Rattle.question.specs.declared.Answer.{Answer}
 use Rattle.question.specs.declared.Asked.{Asked}
 use Rattle.question.specs.declared.Asked.the-variants as asked
 use Rattle.promises.proofs.Demand1.{forward-obeys, kind-obeys, question-obeys}
-use Rattle.promises.proofs.Tests.{past-line-3}
+use Rattle.promises.proofs.Tests.{past-line-3, kind-exactly}
 
 -- The marks of a node are not moved by what stands behind the marks of all nodes.
 front : (m past : List ℕ) (n v : ℕ) → length m ≡ n → v < n → getD (m ++ past) v 0 ≡ getD m v 0
@@ -42,9 +41,6 @@ module _ (o k : ℕ) (ws : List ℕ) where
 
   long : Net o k ws → (cs : List Command) → Puts 8 cs → (budget : ℕ) (start : List ℕ) → length start ≡ o + k → length (rounds cs ws 0 budget start .marks) ≡ o + k
   long net cs p budget start e = scan-long (o + k) ws (legal-inside o k ws (net .legal)) cs p budget start (omega arith) ∙ e
-
-  kind-of : (y : ℕ) → (leb (o + k) y || ltb y o) ≡ false → Kind o k y
-  kind-of y e = record { low = ltb-false y o (or-none-right (leb (o + k) y) (ltb y o) e); high = leb-false (o + k) y (or-none-left (leb (o + k) y) (ltb y o) e) }
 
   -- The byte at v where a call left the marks of a scan in front of other bytes.
   module _ (net : Net o k ws) (cs : List Command) (p : Puts 8 cs) (budget : ℕ) (start past : List ℕ) (e : length start ≡ o + k) where
@@ -74,7 +70,7 @@ module _ (o k : ℕ) (ws : List ℕ) where
         }
 
     pub forward-was-spent : forwardScanned o k ws x budget m .answer ≡ scanned.Spent count
-        → Ran (x < o + k) forward (forwardStart (o + k) x) budget budget false (forwardScanned o k ws x budget m .marks)
+        → Ran (x < o + k) forward (forwardStart (o + k) x) budget count false (forwardScanned o k ws x budget m .marks)
     forward-was-spent e =
         let d = forward-obeys o k ws x budget m .exactly 6 .0 (ap (λ (r : Scanned). scanRow r .number) e) in
         let l = forward-obeys o k ws x budget m .leaves 6 d in
@@ -85,7 +81,7 @@ module _ (o k : ℕ) (ws : List ℕ) where
           net = net;
           from = node;
           ended = spent;
-          counted = spent-marks forward ws (forwardStart (o + k) x) budget spent .0;
+          counted = spent-marks forward ws (forwardStart (o + k) x) budget spent .0 ∙ ap (λ (r : Scanned). scanRow r .first) (sym (ap (λ (r : Outcome). r .answer) l) ∙ e);
           left = byte-spent net forward forward-puts-8 budget (forwardStart (o + k) x) (drop (o + k) m) (forward-long (o + k) x node) _ spent (ap (λ (r : Outcome). r .marks) l);
         }
 
@@ -97,7 +93,7 @@ module _ (o k : ℕ) (ws : List ℕ) where
         let d = kind-obeys o k ws y budget m .exactly 0 .0 (ap (λ (r : Scanned). scanRow r .number) e) in
         let l = kind-obeys o k ws y budget m .leaves 0 d in
         let net = past-line-3 o k ws .0 (d .0, d .1 .0, d .1 .1 .0) in
-        let kind = kind-of y (d .1 .1 .1 .0) in
+        let kind = kind-exactly o k ws y .0 (d .1 .1 .1 .0) in
         record {
           net = net;
           from = kind;
@@ -107,18 +103,18 @@ module _ (o k : ℕ) (ws : List ℕ) where
         }
 
     pub kind-was-spent : kindScanned o k ws y budget m .answer ≡ scanned.Spent count
-        → Ran (Kind o k y) kindly (kindStart (o + k) y) budget budget false (kindScanned o k ws y budget m .marks)
+        → Ran (Kind o k y) kindly (kindStart (o + k) y) budget count false (kindScanned o k ws y budget m .marks)
     kind-was-spent e =
         let d = kind-obeys o k ws y budget m .exactly 6 .0 (ap (λ (r : Scanned). scanRow r .number) e) in
         let l = kind-obeys o k ws y budget m .leaves 6 d in
         let net = past-line-3 o k ws .0 (d .0, d .1 .0, d .1 .1 .0) in
-        let kind = kind-of y (d .1 .1 .1 .0) in
+        let kind = kind-exactly o k ws y .0 (d .1 .1 .1 .0) in
         let spent = not-true (kindScan (o + k) ws y budget .done) (d .1 .1 .1 .1 .1) in
         record {
           net = net;
           from = kind;
           ended = spent;
-          counted = spent-marks kindly ws (kindStart (o + k) y) budget spent .0;
+          counted = spent-marks kindly ws (kindStart (o + k) y) budget spent .0 ∙ ap (λ (r : Scanned). scanRow r .first) (sym (ap (λ (r : Outcome). r .answer) l) ∙ e);
           left = byte-spent net kindly kindly-puts-8 budget (kindStart (o + k) y) (drop (o + k) m) (kind-long (o + k) y (kind .high)) _ spent (ap (λ (r : Outcome). r .marks) l);
         }
 
@@ -127,20 +123,20 @@ module _ (o k : ℕ) (ws : List ℕ) where
     pub net : Net o k ws
     pub node : x < o + k
     pub kind : Kind o k y
-    pub word : answerAt (getD (forwardScan (o + k) ws x (2 * (o + k)) .marks) y 0) ≡ a
-    pub counted : forwardScan (o + k) ws x (2 * (o + k)) .count ≡ count
+    pub word : answerAt (getD (fullScan (o + k) ws x .marks) y 0) ≡ a
+    pub counted : fullScan (o + k) ws x .count ≡ count
 
   pub question-answered : (x y : ℕ) (m : List ℕ) (a : Answer) (count : ℕ) → questioned o k ws x y m .answer ≡ asked.Done a count → Answered x y a count
   question-answered x y m a count e =
       let d = question-obeys o k ws x y m .exactly 0 .0 (ap (λ (r : Asked). askedRow r .number) e) in
       let l = question-obeys o k ws x y m .leaves 0 d in
-      let q : asked.Done (answerAt (getD (forwardScan (o + k) ws x (2 * (o + k)) .marks) y 0)) (forwardScan (o + k) ws x (2 * (o + k)) .count) ≡ asked.Done a count =
+      let q : asked.Done (answerAt (getD (fullScan (o + k) ws x .marks) y 0)) (fullScan (o + k) ws x .count) ≡ asked.Done a count =
       sym (ap (λ (r : Question). r .answer) l) ∙ e in
-      let rest = or-none-right (leb (o + k) x) (ltb y o || leb (o + k) y) (d .1 .1 .1 .0) in
+      let good = good-pair o (o + k) x y .0 (d .1 .1 .1 .0) in
       record {
         net = past-line-3 o k ws .0 (d .0, d .1 .0, d .1 .1 .0);
-        node = leb-false (o + k) x (or-none-left (leb (o + k) x) (ltb y o || leb (o + k) y) (d .1 .1 .1 .0));
-        kind = record { low = ltb-false y o (or-none-left (ltb y o) (leb (o + k) y) rest); high = leb-false (o + k) y (or-none-right (ltb y o) (leb (o + k) y) rest) };
+        node = good .node;
+        kind = good-kind good;
         word = cc;
         counted = cc;
       }

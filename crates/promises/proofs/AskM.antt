@@ -1,45 +1,24 @@
--- The net file of net M with its five questions, and what `ask` prints for it, by computation.
-use Prim.Native.Nat.{ℕ}
+-- What `ask` prints for the net file of net M with its five questions, by computation.
 use mathlib.Core.Path.{_≡_, refl}
-use mathlib.Core.List.{List, [], _∷_}
 use lib.ListN.{length}
 use Rattle.theory.specs.Marks.{mark, link, links, command, round}
 use Rattle.theory.specs.Scans.{same, rounds}
 use Rattle.net.specs.Legal.{legalPrefix}
 use Rattle.net.specs.Table.{checkNet}
 use Rattle.netfile_entry.specs.Entries.{entryAt}
-use Rattle.netfile.specs.Contents.{contentsOf}
+use Rattle.netfile.specs.Contents.{entriesOf}
 use Rattle.netfile_numbers.specs.Bytes.{u32s}
 use Rattle.text_field.specs.Decimal.{digits}
 use Rattle.ask_line.specs.Line.{lineOf}
 use Rattle.ask_net.specs.Replies.{linesOf, netText}
-use Rattle.ask_text.specs.Text.{fileText, textOf}
+use Rattle.ask_text.specs.Text.{textOf}
+use Rattle.promises.specs.AskM.{fileM, printedM}
 
--- Contents, nodes, words and questions.
-abbrev pub fileM : List ℕ
-fileM =
-    24 ∷ 0 ∷ 0 ∷ 0 ∷ 8 ∷ 0 ∷ 0 ∷ 0
-    ∷ 32 ∷ 0 ∷ 0 ∷ 0 ∷ 20 ∷ 0 ∷ 0 ∷ 0
-    ∷ 52 ∷ 0 ∷ 0 ∷ 0 ∷ 20 ∷ 0 ∷ 0 ∷ 0
-    ∷ 2 ∷ 0 ∷ 0 ∷ 0 ∷ 4 ∷ 0 ∷ 0 ∷ 0
-    ∷ 4 ∷ 0 ∷ 0 ∷ 0 ∷ 10 ∷ 8 ∷ 0 ∷ 0 ∷ 7 ∷ 16 ∷ 0 ∷ 0 ∷ 6 ∷ 32 ∷ 0 ∷ 0 ∷ 8 ∷ 40 ∷ 0 ∷ 0
-    ∷ 0 ∷ 0 ∷ 4 ∷ 0 ∷ 1 ∷ 0 ∷ 4 ∷ 0 ∷ 2 ∷ 0 ∷ 5 ∷ 0 ∷ 3 ∷ 0 ∷ 4 ∷ 0 ∷ 3 ∷ 0 ∷ 0 ∷ 0
-    ∷ []
-
+-- The file has 72 bytes.
 pub size-72 : length fileM ≡ 72
 size-72 = refl
 
--- The five lines: 0 4 no 5, 1 4 yes 5, 2 5 no 5, 3 4 none 3, 3 0 refused 4.
-abbrev pub printedM : List ℕ
-printedM =
-    48 ∷ 32 ∷ 52 ∷ 32 ∷ 110 ∷ 111 ∷ 32 ∷ 53 ∷ 10
-    ∷ 49 ∷ 32 ∷ 52 ∷ 32 ∷ 121 ∷ 101 ∷ 115 ∷ 32 ∷ 53 ∷ 10
-    ∷ 50 ∷ 32 ∷ 53 ∷ 32 ∷ 110 ∷ 111 ∷ 32 ∷ 53 ∷ 10
-    ∷ 51 ∷ 32 ∷ 52 ∷ 32 ∷ 110 ∷ 111 ∷ 110 ∷ 101 ∷ 32 ∷ 51 ∷ 10
-    ∷ 51 ∷ 32 ∷ 48 ∷ 32 ∷ 114 ∷ 101 ∷ 102 ∷ 117 ∷ 115 ∷ 101 ∷ 100 ∷ 32 ∷ 52 ∷ 10
-    ∷ []
-
--- `ask` prints them.
+-- `ask` prints the five lines.
 pub ask-prints : textOf fileM ≡ printedM
-unfolding fileText netText linesOf lineOf digits contentsOf entryAt u32s checkNet legalPrefix rounds same round command links link mark
+unfolding textOf netText linesOf lineOf digits entriesOf entryAt u32s checkNet legalPrefix rounds same round command links link mark
 ask-prints = refl

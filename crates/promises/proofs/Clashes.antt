@@ -6,31 +6,23 @@ use mathlib.Core.List.{List}
 use mathlib.Core.Logic.{_↔_}
 use native.Mathlib.Omega.{arith}
 use native.Mathlib.Decide.{decLt, ℕ-discrete}
-use lib.Dec.{eqb, ltb}
-use lib.ListN.{length, getD}
+use lib.Dec.{ltb}
+use lib.ListN.{getD}
 use borrow.Author.Tests.{ltb-true, ltb-false}
 use Rattle.theory_laws.proofs.Booleans.{clash as contradiction, and-left, and-right, and-both}
 use Rattle.theory.specs.Words.{is, isnt}
 use Rattle.theory.specs.Nets.{Kind, Net}
-use Rattle.theory.specs.Marks.{T, F, has}
+use Rattle.theory.specs.Marks.{saysYes, saysNo}
 use Rattle.theory.specs.Completion.{fullMarks}
 use Rattle.theory.proofs.Completing.{full-exact}
-use Rattle.net.specs.Table.{checkNet}
-use Rattle.net.specs.declared.Refusal.the-variants.{ShortBuffer}
-use Rattle.net.specs.declared.Checked.{Checked}
-use Rattle.net.specs.declared.Checked.the-variants as checked
-use Rattle.net.proofs.NetCheck.{check-is-net}
-use Rattle.scan_start.specs.Starts.{cleared}
-use Rattle.clash.specs.Table.{clash, firstBoth, clashNodes, firstClash, clashNet, clashChecked, clashedBy, clashedRow}
+use Rattle.clash.specs.Table.{firstBoth, firstClash, clashSearch, nowhere as isNowhere, clashedRow}
 use Rattle.clash.specs.declared.Clashed.{Clashed}
-use Rattle.clash.specs.declared.Clashed.the-variants.{At, Nowhere, Refused}
-use Rattle.promises.specs.Calls.{noClash}
-use Rattle.promises.specs.Engines.{ours}
-use Rattle.promises.specs.Clashing.{ClashAt, SmallestClash, Clashing}
+use Rattle.clash.specs.declared.Clashed.the-variants.{At, Nowhere}
+use Rattle.promises.specs.Clashing.{ClashAt, SmallestClash}
 
 -- Both marks at y.
 abbrev both : List ℕ → ℕ → Bool
-both m y = has T (getD m y 0) && has F (getD m y 0)
+both m y = saysYes (getD m y 0) && saysNo (getD m y 0)
 
 -- The search along j kinds from y on came to r.
 record Came (m : List ℕ) (y j r : ℕ) : Type 0 where
@@ -110,8 +102,8 @@ module _ (o k : ℕ) (ws : List ℕ) where
     -- Both marks are both answers.
     clash-of : (x y : ℕ) → x < o → Kind o k y → both (fullMarks o k ws x) y ≡ true → ClashAt o k ws x y
     clash-of x y h a e =
-        let t = has T (getD (fullMarks o k ws x) y 0) in
-        let f = has F (getD (fullMarks o k ws x) y 0) in
+        let t = saysYes (getD (fullMarks o k ws x) y 0) in
+        let f = saysNo (getD (fullMarks o k ws x) y 0) in
         record {
           object = h;
           kind = a;
@@ -122,7 +114,7 @@ module _ (o k : ℕ) (ws : List ℕ) where
     marks-of : (x y : ℕ) → ClashAt o k ws x y → both (fullMarks o k ws x) y ≡ true
     marks-of x y c =
         let h : x < o + k = omega (arith, c .object) in
-        and-both (has T (getD (fullMarks o k ws x) y 0)) (has F (getD (fullMarks o k ws x) y 0))
+        and-both (saysYes (getD (fullMarks o k ws x) y 0)) (saysNo (getD (fullMarks o k ws x) y 0))
         (full-exact o k ws net x y is h (c .kind) .1 (c .isYes)) (full-exact o k ws net x y isnt h (c .kind) .1 (c .isNo))
 
     no-peace : {A : Type 0} (x y : ℕ) → ClashAt o k ws x y → Peace x → A
@@ -159,7 +151,7 @@ module _ (o k : ℕ) (ws : List ℕ) where
             let p : u ≡ x = ap (λ (c : Clashed). clashedRow c .first) (sym f ∙ e) in
             let q : v ≡ y = ap (λ (c : Clashed). clashedRow c .second) (sym f ∙ e) in
             rw (p, q) at (war-smallest u v (omega arith) w b)
-        at (nowhere f b) = contradiction (ap (λ (c : Clashed). eqb (clashedRow c .number) 7) (sym e ∙ f))
+        at (nowhere f b) = contradiction (ap isNowhere (sym e ∙ f))
 
     smallest-is : (x y : ℕ) → SmallestClash o k ws x y → firstClash o k ws 0 o ≡ At x y
     smallest-is x y c = at (search 0 o)
@@ -169,47 +161,29 @@ module _ (o k : ℕ) (ws : List ℕ) where
         at (nowhere f b) = no-peace x y (c .clash) (b x (omega arith) (omega (arith, c .clash .object)))
 
     -- The clash test gives x and y exactly if they are the smallest clash.
-    pub clash-exactly : (x y : ℕ) → (firstClash o k ws 0 (clashNodes o k) ≡ At x y) ↔ SmallestClash o k ws x y
+    pub clash-exactly : (x y : ℕ) → (clashSearch o k ws ≡ At x y) ↔ SmallestClash o k ws x y
     clash-exactly x y = (is-smallest x y, smallest-is x y)
 
     -- It gives none exactly if no object clashes.
-    pub no-clash-exactly : (noClash o k ws ≡ true) ↔ ((x y : ℕ) → ClashAt o k ws x y → ⊥)
+    pub no-clash-exactly : (isNowhere (clashSearch o k ws) ≡ true) ↔ ((x y : ℕ) → ClashAt o k ws x y → ⊥)
     no-clash-exactly = (there (search 0 o), back (search 0 o))
       where
-        there : Found 0 o (firstClash o k ws 0 o) → noClash o k ws ≡ true → (x y : ℕ) → ClashAt o k ws x y → ⊥
-        there (somewhere u v f l h w b) e x y c = contradiction (sym (ap (λ (c : Clashed). eqb (clashedRow c .number) 7) f) ∙ e)
+        there : Found 0 o (firstClash o k ws 0 o) → isNowhere (clashSearch o k ws) ≡ true → (x y : ℕ) → ClashAt o k ws x y → ⊥
+        there (somewhere u v f l h w b) e x y c = contradiction (sym (ap isNowhere f) ∙ e)
         there (nowhere f b) e x y c = no-peace x y c (b x (omega arith) (omega (arith, c .object)))
 
-        back : Found 0 o (firstClash o k ws 0 o) → ((x y : ℕ) → ClashAt o k ws x y → ⊥) → noClash o k ws ≡ true
+        back : Found 0 o (firstClash o k ws 0 o) → ((x y : ℕ) → ClashAt o k ws x y → ⊥) → isNowhere (clashSearch o k ws) ≡ true
         back (somewhere u v f l h w b) n = absurd (n u v (war-smallest u v (omega arith) w b .clash))
-        back (nowhere f b) n = ap (λ (c : Clashed). eqb (clashedRow c .number) 7) f
+        back (nowhere f b) n = ap isNowhere f
 
--- Whether an answer is a refusal.
-abbrev refuses : Clashed → Bool
-refuses (At x y) = false
-refuses Nowhere = false
-refuses (Refused r) = true
+    -- It gives one exactly if some object clashes.
+    pub some-clash-exactly : (isNowhere (clashSearch o k ws) ≡ false) ↔ ((x : ℕ) × (y : ℕ) × ClashAt o k ws x y)
+    some-clash-exactly = (there (search 0 o), back (search 0 o))
+      where
+        there : Found 0 o (firstClash o k ws 0 o) → isNowhere (clashSearch o k ws) ≡ false → (x : ℕ) × (y : ℕ) × ClashAt o k ws x y
+        there (somewhere u v f l h w b) e = (u, v, war-smallest u v (omega arith) w b .clash)
+        there (nowhere f b) e = contradiction (sym e ∙ ap isNowhere f)
 
--- An answer that is no refusal is what the search over a net came to.
-searched : (o k : ℕ) (ws m : List ℕ) (c : Clashed) → refuses c ≡ false → clashedBy o k ws m .answer ≡ c
-    → Net o k ws × (firstClash o k ws 0 (clashNodes o k) ≡ c)
-unfolding clashChecked clashNet
-searched o k ws m c h e = at (checkNet o k ws) refl e
-  where
-    past : (q : Bool) (l : List ℕ) → cond q (clash (Refused ShortBuffer) m) (clash (firstClash o k ws 0 (clashNodes o k)) l) .answer ≡ c
-        → firstClash o k ws 0 (clashNodes o k) ≡ c
-    past true l f = contradiction (sym h ∙ sym (ap refuses f))
-    past false l f = f
-
-    at : (r : Checked) → checkNet o k ws ≡ r → clashChecked o k ws m r .answer ≡ c → Net o k ws × (firstClash o k ws 0 (clashNodes o k) ≡ c)
-    at (checked.Nodes n) p f = (check-is-net o k ws n p .1, past (ltb (length m) n) (cleared n m) f)
-    at (checked.Refused r) p f = contradiction (sym h ∙ sym (ap refuses f))
-
--- Our engine keeps what is promised of the clash test.
-pub clashing : Clashing ours
-clashing = record {
-  at = λ o k ws m x y e. let (net, f) = searched o k ws m (At x y) refl e in clash-exactly o k ws net x y .0 f;
-  nowhere = λ o k ws m e.
-      let (net, f) = searched o k ws m Nowhere refl e in
-      no-clash-exactly o k ws net .0 (ap (λ (c : Clashed). eqb (clashedRow c .number) 7) f);
-}
+        back : Found 0 o (firstClash o k ws 0 o) → (x : ℕ) × (y : ℕ) × ClashAt o k ws x y → isNowhere (clashSearch o k ws) ≡ false
+        back (somewhere u v f l h w b) c = ap isNowhere f
+        back (nowhere f b) (x, y, c) = no-peace x y c (b x (omega arith) (omega (arith, c .object)))

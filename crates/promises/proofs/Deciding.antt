@@ -1,13 +1,40 @@
 -- Demand 1, for every table at once: a call has number n exactly when line n applies and no line before it does, and it then leaves what line n says.
 use Prim.Native.Nat.{ℕ}
 use mathlib.Core.Path.{_≡_, refl, sym, ap, _∙_}
-use mathlib.Core.Bool.{Bool, true, false, cond, not}
+use mathlib.Core.Bool.{Bool, true, false, cond, not, _&&_}
 use mathlib.Core.List.{List, [], _∷_}
 use lib.Dec.{eqb}
 use borrow.Author.Tests.{eqb-true, eqb-false, not-true}
 use Rattle.theory_laws.proofs.Booleans.{clash, and-left, and-right}
 use Rattle.net.specs.Lines.{Line, call}
-use Rattle.promises.specs.Tables.{NoLine, choose, Due, outcomeOf, among, distinct, Numbered, Table, Obeys}
+use Rattle.promises.specs.Tables.{choose, Due, outcomeOf, Obeys}
+
+-- No line applies.
+abbrev pub NoLine : {A : Type 0} → List (Line A) → Type 0
+NoLine [] = Unit {0}
+NoLine (l ∷ ls) = (l .applies ≡ false) × NoLine ls
+
+-- A number stands among the lines' numbers.
+abbrev pub among : {A : Type 0} → ℕ → List (Line A) → Bool
+among n [] = false
+among n (l ∷ ls) = cond (eqb (l .number) n) true (among n ls)
+
+-- No two lines have one number.
+abbrev pub distinct : {A : Type 0} → List (Line A) → Bool
+distinct [] = true
+distinct (l ∷ ls) = not (among (l .number) ls) && distinct ls
+
+-- The outcome of each line has the line's own number, where `number` reads the number of an outcome.
+abbrev pub Numbered : {A : Type 0} → (A → ℕ) → List (Line A) → Type 0
+Numbered number [] = Unit {0}
+Numbered number (l ∷ ls) = (number (l .outcome) ≡ l .number) × Numbered number ls
+
+-- A table as it should be: numbered, no number twice, none of them 0, and 0 is what a call has to which no line applies.
+pub record Table {A : Type 0} (number : A → ℕ) (ls : List (Line A)) (done : A) : Type 0 where
+  pub numbered : Numbered number ls
+  pub once : distinct ls ≡ true
+  pub nonzero : among 0 ls ≡ false
+  pub zero : NoLine ls → number done ≡ 0
 
 -- A number that is not among some lines is neither the first line's nor among the rest.
 not-first : {A : Type 0} (n : ℕ) (l : Line A) (ls : List (Line A)) → among n (l ∷ ls) ≡ false → eqb (l .number) n ≡ false

@@ -1,55 +1,46 @@
 -- Demand 1, kept by our engine: whatever numbers and buffers a call is given, its number is that of the first line that applies, each buffer is
 -- left as that line says, and where no line applies the call is done. Nothing is asked of the caller.
 use Prim.Native.Nat.{ℕ, zero, suc, _+_}
-use mathlib.Core.Path.{_≡_, refl, sym, ap, _∙_}
+use mathlib.Core.Path.{_≡_, refl, sym}
 use mathlib.Core.Bool.{Bool, true, false, cond}
 use mathlib.Core.List.{List}
-use mathlib.Core.Logic.{_⊎_, inl, inr}
-use lib.Dec.{eqb, ltb}
+use lib.Dec.{ltb}
 use Rattle.theory_laws.proofs.Booleans.{clash as contradiction}
 use Rattle.theory.specs.Words.{signAt}
-use Rattle.theory.specs.Completion.{fullMarks}
+use Rattle.theory.specs.Completion.{fullMarks, complete}
 use Rattle.theory.specs.Checks.{passes}
 use Rattle.net.specs.Table.{checkNet}
 use Rattle.scan.specs.Table.{forwardScanned, kindScanned}
 use Rattle.question.specs.Table.{questioned}
-use Rattle.clash.specs.Table.{firstBoth, firstClash, clashNodes, clashedRow, clashedBy}
+use Rattle.clash.specs.Table.{firstBoth, firstClash, clashNodes, clashSearch, nowhere, clashTable, clashDone, clashedRow, clashedBy}
+use Rattle.clash.specs.declared.Clashed.{Clashed}
 use Rattle.clash.specs.declared.Clashed.the-variants as clashed
-use Rattle.completion.specs.Table.{completedBy}
-use Rattle.reason.specs.Table.{reasoned}
-use Rattle.reason_check.specs.Table.{verdict}
+use Rattle.completion.specs.Table.{completionTable, completionDone, completedBy}
+use Rattle.reason.specs.Table.{reasonTable, reasonDone, reasoned}
+use Rattle.reason_check.specs.Table.{checkTable, checkDone, verdict}
 use Rattle.reason_check.specs.declared.Verdict.the-variants.{Holds, Fails}
 use Rattle.promises.specs.Tables.{Obeys}
-use Rattle.net.specs.Table.{netTable}
+use Rattle.net.specs.Table.{netTable, netDone}
 use Rattle.scan.specs.Table.{scanTable, scanDone}
 use Rattle.question.specs.Table.{questionTable, questionDone}
-use Rattle.promises.specs.Calls.{netDone, noClash, clashTable, clashDone, completionTable, completionDone, reasonTable, reasonDone, checkTable, checkDone, readFrom, fileTable, fileDone}
+use Rattle.netfile.specs.Table.{readFrom, fileTable, fileDone}
+use Rattle.netfile.proofs.Called.{file-called}
 use Rattle.promises.specs.Numbers.{checkedNumber, scanNumber, questionNumber, clashNumber, completionNumber, reasonNumber, verdictNumber, readingNumber}
 use Rattle.promises.specs.Engines.{ours}
 use Rattle.promises.specs.Demand1.{Demand1}
 use Rattle.promises.proofs.Deciding.{obeys}
-use Rattle.promises.proofs.Called.{clash-called, completion-called, reason-called, check-called, file-called}
 
--- A search for a clash ends with 0 or with 7.
-clash-or-none : (o k : ℕ) (ws : List ℕ) (x j : ℕ) → (clashedRow (firstClash o k ws x j) .number ≡ 0) ⊎ (clashedRow (firstClash o k ws x j) .number ≡ 7)
+-- A search that came to some clash has number 0.
+clash-found : (o k : ℕ) (ws : List ℕ) (x j : ℕ) → nowhere (firstClash o k ws x j) ≡ false → clashedRow (firstClash o k ws x j) .number ≡ 0
 unfolding firstClash
-clash-or-none o k ws x zero = inr refl
-clash-or-none o k ws x (suc j) = at (ltb (firstBoth (fullMarks o k ws x) o k) (o + k)) (clash-or-none o k ws (suc x) j)
+clash-found o k ws x zero e = contradiction (sym e)
+clash-found o k ws x (suc j) e =
+    at (firstBoth (fullMarks o k ws x) o k) (firstClash o k ws (suc x) j) (ltb (firstBoth (fullMarks o k ws x) o k) (o + k)) (clash-found o k ws (suc x) j) e
   where
-    at : (q : Bool) → (clashedRow (firstClash o k ws (suc x) j) .number ≡ 0) ⊎ (clashedRow (firstClash o k ws (suc x) j) .number ≡ 7)
-        → (clashedRow (cond q (clashed.At x (firstBoth (fullMarks o k ws x) o k)) (firstClash o k ws (suc x) j)) .number ≡ 0)
-        ⊎ (clashedRow (cond q (clashed.At x (firstBoth (fullMarks o k ws x) o k)) (firstClash o k ws (suc x) j)) .number ≡ 7)
-    at true h = inl refl
-    at false h = h
-
--- So one that did not end with 7 ended with 0.
-clash-found : (o k : ℕ) (ws : List ℕ) → noClash o k ws ≡ false → clashedRow (firstClash o k ws 0 (clashNodes o k)) .number ≡ 0
-clash-found o k ws e = at (clash-or-none o k ws 0 (clashNodes o k))
-  where
-    at : (clashedRow (firstClash o k ws 0 (clashNodes o k)) .number ≡ 0) ⊎ (clashedRow (firstClash o k ws 0 (clashNodes o k)) .number ≡ 7)
-        → clashedRow (firstClash o k ws 0 (clashNodes o k)) .number ≡ 0
-    at (inl h) = h
-    at (inr h) = contradiction (sym e ∙ ap (λ (n : ℕ). eqb n 7) h)
+    at : (y : ℕ) (c : Clashed) (q : Bool) → (nowhere c ≡ false → clashedRow c .number ≡ 0) → nowhere (cond q (clashed.At x y) c) ≡ false
+        → clashedRow (cond q (clashed.At x y) c) .number ≡ 0
+    at y c true h f = refl
+    at y c false h f = h f
 
 verdict-done : (q : Bool) → verdictNumber (cond q Holds Fails) ≡ 0
 verdict-done true = refl
@@ -57,7 +48,7 @@ verdict-done false = refl
 
 module _ (o k : ℕ) (ws : List ℕ) where
   -- The check of a net obeys its table: numbers 1 to 3, or 0.
-  pub net-obeys : Obeys checkedNumber (netTable o k ws) (netDone o k ws) (checkNet o k ws)
+  pub net-obeys : Obeys checkedNumber (netTable o k ws) (netDone o k) (checkNet o k ws)
   unfolding checkNet
   net-obeys =
       obeys checkedNumber _ _ (record { numbered = (refl, (refl, (refl, tt))); once = refl; nonzero = refl; zero = λ h. refl }) _
@@ -82,28 +73,28 @@ module _ (o k : ℕ) (ws : List ℕ) where
       refl
 
   -- The clash test: numbers 1, 2, 3, 5 and 7, or 0.
-  pub clash-obeys : (m : List ℕ) → Obeys clashNumber (clashTable o k ws m) (clashDone o k ws m) (clashedBy o k ws m)
+  pub clash-obeys : (m : List ℕ) → Obeys clashNumber (clashTable o k ws m) (clashDone (clashSearch o k ws) m (o + k)) (clashedBy o k ws m)
   clash-obeys m =
-      obeys clashNumber _ _ (record { numbered = (refl, (refl, (refl, (refl, (refl, tt))))); once = refl; nonzero = refl; zero = λ h. clash-found o k ws (h .1 .1 .1 .1 .0) }) _
-      (clash-called o k ws m)
+      obeys clashNumber _ _ (record { numbered = (refl, (refl, (refl, (refl, (refl, tt))))); once = refl; nonzero = refl; zero = λ h. clash-found o k ws 0 (clashNodes o k) (h .1 .1 .1 .1 .0) }) _
+      refl
 
   -- The completion: numbers 1, 2, 3, 5 and 8, or 0.
-  pub completion-obeys : (m l : List ℕ) → Obeys completionNumber (completionTable o k ws m l) (completionDone o k ws m l) (completedBy o k ws m l)
+  pub completion-obeys : (m l : List ℕ) → Obeys completionNumber (completionTable o k ws m l) (completionDone (complete o k ws) m l (o + k)) (completedBy o k ws m l)
   completion-obeys m l =
       obeys completionNumber _ _ (record { numbered = (refl, (refl, (refl, (refl, (refl, tt))))); once = refl; nonzero = refl; zero = λ h. refl }) _
-      (completion-called o k ws m l)
+      refl
 
   -- The reason: numbers 1 to 5, 7 and 8, or 0.
-  pub reason-obeys : (x y sign : ℕ) (d l : List ℕ) → Obeys reasonNumber (reasonTable o k ws x y sign d l) (reasonDone o k ws x y sign d l) (reasoned o k ws x y sign d l)
+  pub reason-obeys : (x y sign : ℕ) (d l : List ℕ) → Obeys reasonNumber (reasonTable o k ws x y sign d l) (reasonDone ws x y sign d l (o + k)) (reasoned o k ws x y sign d l)
   reason-obeys x y sign d l =
       obeys reasonNumber _ _ (record { numbered = (refl, (refl, (refl, (refl, (refl, (refl, (refl, tt))))))); once = refl; nonzero = refl; zero = λ h. refl }) _
-      (reason-called o k ws x y sign d l)
+      refl
 
   -- The reason check: numbers 1 to 4, or 0.
-  pub check-obeys : (x y sign : ℕ) (l : List ℕ) → Obeys verdictNumber (checkTable o k ws x y sign l) (checkDone o k ws x y sign l) (verdict o k ws x y sign l)
+  pub check-obeys : (x y sign : ℕ) (l : List ℕ) → Obeys verdictNumber (checkTable o k ws x y sign) (checkDone o k ws x y sign l) (verdict o k ws x y sign l)
   check-obeys x y sign l =
       obeys verdictNumber _ _ (record { numbered = (refl, (refl, (refl, (refl, tt)))); once = refl; nonzero = refl; zero = λ h. verdict-done (passes o k ws x y (signAt sign) l) }) _
-      (check-called o k ws x y sign l)
+      refl
 
 -- The file reader: 9, or 0.
 pub file-obeys : (s : List ℕ) → Obeys readingNumber (fileTable s) (fileDone s) (readFrom s)

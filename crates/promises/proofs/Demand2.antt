@@ -5,14 +5,16 @@ use mathlib.Core.Bool.{Bool, true, false, cond}
 use mathlib.Core.List.{List}
 use mathlib.Core.Logic.{_↔_}
 use native.Mathlib.Omega.{arith}
+use native.Mathlib.Decide.{decLt}
 use lib.ListN.{getD}
+use Rattle.theory_laws.proofs.Booleans.{clash}
 use Rattle.theory.specs.Words.{Sign, is, isnt}
 use Rattle.theory.specs.Nets.{Statements, Kind, Links}
 use Rattle.theory.specs.Support.{Supported}
-use Rattle.theory.specs.Marks.{T, F, U, has, forward, forwardStart, markerOf, At}
-use Rattle.theory.specs.Scans.{rounds, Count, forwardScan, kindScan}
+use Rattle.theory.specs.Marks.{T, F, U, has, forward, kindly, forwardStart, kindStart, markerOf, At}
+use Rattle.theory.specs.Scans.{rounds, Count, Scanned, ended, spent, forwardScan, fullScan, kindScan}
 use Rattle.theory.specs.declared.Command.{Command}
-use Rattle.theory.proofs.Budgets.{last-round, count-unique}
+use Rattle.theory.proofs.Budgets.{last-round, count-unique, rounds-scanned}
 use Rattle.theory.proofs.Bounds.{forward-counted, forward-done, kind-counted}
 use Rattle.theory.proofs.Sides.{forward-exact, forward-spent, kind-exact, kind-exact-up, kind-spent, kind-spent-up}
 use Rattle.scan.specs.declared.Scanned.the-variants as scanned
@@ -21,7 +23,7 @@ use Rattle.question.specs.declared.Answer.{Answer}
 use Rattle.question.specs.declared.Answer.the-variants.{None, Yes, No, Both}
 use Rattle.question.specs.declared.Asked.the-variants as asked
 use Rattle.promises.specs.Engines.{Engine, ours}
-use Rattle.promises.specs.Demand2.{Smallest, says, Demand2}
+use Rattle.promises.specs.Demand2.{Smallest, says, SpentRounds, Demand2}
 use Rattle.promises.proofs.SmallestSet.{smallest-is-supported}
 use Rattle.promises.proofs.Answered.{Ran, forward-ended, forward-was-spent, kind-ended, kind-was-spent, Answered, question-answered}
 
@@ -43,6 +45,14 @@ answer-says b s = at (has T b) (has F b) refl refl s
 ended-count : (cs : List Command) (ws m : List ℕ) (budget : ℕ) → rounds cs ws 0 budget m .done ≡ true → Count cs ws m (rounds cs ws 0 budget m .count)
 ended-count cs ws m budget d = let t = last-round cs ws m budget d in rw (t .count) (t .counted)
 
+-- A scan whose budget was spent has run all of its rounds, and each of them set something.
+spent-rounds : (cs : List Command) (ws m : List ℕ) (budget : ℕ) → rounds cs ws 0 budget m .done ≡ false → SpentRounds cs ws m budget (rounds cs ws 0 budget m .count)
+spent-rounds cs ws m budget d = go (rounds-scanned cs ws m budget)
+  where
+    go : Scanned cs ws m budget (rounds cs ws 0 budget m) → SpentRounds cs ws m budget (rounds cs ws 0 budget m .count)
+    go (ended a k l e) = clash (sym d ∙ a)
+    go (spent a b n e) = record { all = n; busy = b }
+
 -- What a marker of one byte means it means of the same byte elsewhere.
 byte-exact : (j : ℕ) {b c : ℕ} {P : Type 0} → b ≡ c → (has j c ≡ true) ↔ P → (has j b ≡ true) ↔ P
 byte-exact j e h = ((λ p. h .0 (rw e at p)), λ p. rw e (h .1 p))
@@ -55,14 +65,14 @@ module _ (o k : ℕ) (ws : List ℕ) where
       let t : Count cs ws start count = subst (Count cs ws start) (r .counted) (ended-count cs ws start budget (r .ended)) in
       (t, omega (arith, count-unique cs ws start count c t n))
 
-  full : (x y : ℕ) (a : Answer) (count : ℕ) → Answered o k ws x y a count → forwardScan (o + k) ws x (2 * (o + k)) .done ≡ true
+  full : (x y : ℕ) (a : Answer) (count : ℕ) → Answered o k ws x y a count → fullScan (o + k) ws x .done ≡ true
   full x y a count h = forward-done o k ws (h .net .legal) x (h .node) (2 * (o + k)) (omega arith)
 
   question-exact : (x y : ℕ) (m : List ℕ) (a : Answer) (count : ℕ) → questioned o k ws x y m .answer ≡ asked.Done a count
       → (s : Sign) → (says a s ≡ true) ↔ Supported o k (Links ws) x y s
   question-exact x y m a count e s =
       let h = question-answered o k ws x y m a count e in
-      let b = answer-says (getD (forwardScan (o + k) ws x (2 * (o + k)) .marks) y 0) s in
+      let b = answer-says (getD (fullScan (o + k) ws x .marks) y 0) s in
       let g = forward-exact o k ws (h .net .legal) x (h .node) (2 * (o + k)) (full x y a count h) y (h .kind) s in
       ((λ p. g .0 (sym b ∙ (rw (h .word) p))), λ p. rw (h .word) at (b ∙ g .1 p))
 
@@ -70,7 +80,7 @@ module _ (o k : ℕ) (ws : List ℕ) where
       → Count forward ws (forwardStart (o + k) x) count × (count ≤ 2 * (o + k))
   question-rounds x y m a count e =
       let h = question-answered o k ws x y m a count e in
-      rounds-of {node = x < o + k} {marks = forwardScan (o + k) ws x (2 * (o + k)) .marks} (2 * (o + k))
+      rounds-of {node = x < o + k} {marks = fullScan (o + k) ws x .marks} (2 * (o + k))
       (record { net = h .net; from = h .node; ended = full x y a count h; counted = h .counted; left = λ v i. refl })
       (forward-counted o k ws (h .net .legal) x (h .node))
 
@@ -88,6 +98,9 @@ demand-2 = record {
   forwardSpent = λ o k ws x budget m count e y h s p.
       let r = forward-was-spent o k ws x budget m count e in
       forward-spent o k ws (r .net .legal) x (r .from) budget (r .ended) y h s (rw (r .left y (h .high)) at p);
+  forwardSpentRounds = λ o k ws x budget m count e.
+      let r = forward-was-spent o k ws x budget m count e in
+      subst (SpentRounds forward ws (forwardStart (o + k) x) budget) (r .counted) (spent-rounds forward ws (forwardStart (o + k) x) budget (r .ended));
   kindScan = λ o k ws y budget m count e x h s.
       let r = kind-ended o k ws y budget m count e in
       byte-exact (markerOf s) (r .left x h) (kind-exact o k ws (r .net .legal) y (r .from) budget (r .ended) x s);
@@ -103,7 +116,18 @@ demand-2 = record {
   kindSpentUp = λ o k ws y budget m count e z h p.
       let r = kind-was-spent o k ws y budget m count e in
       kind-spent-up o k ws (r .net .legal) y (r .from) budget (r .ended) z (rw (r .left z h) at p);
+  kindSpentRounds = λ o k ws y budget m count e.
+      let r = kind-was-spent o k ws y budget m count e in
+      subst (SpentRounds kindly ws (kindStart (o + k) y) budget) (r .counted) (spent-rounds kindly ws (kindStart (o + k) y) budget (r .ended));
 }
+
+-- A budget that was spent lies below the count of the machine.
+pub spent-below : (cs : List Command) (ws m : List ℕ) (budget count c : ℕ) → SpentRounds cs ws m budget count → Count cs ws m c → budget < c
+spent-below cs ws m budget count c r n = pick (decLt budget c)
+  where
+    pick : Dec (budget < c) → budget < c
+    pick (yes h) = h
+    pick (no h) = absurd (r .busy (n .last) (omega (arith, n .number)) (n .quiet))
 
 -- In the words of the demand, of any engine that keeps it: the answer says s exactly if the statement is in the smallest set.
 pub in-smallest : (e : Engine) → Demand2 e → (o k : ℕ) (ws : List ℕ) (x y : ℕ) (m : List ℕ) (a : Answer) (count : ℕ) → e .question o k ws x y m .answer ≡ asked.Done a count

@@ -1,13 +1,11 @@
 -- Demand 3, kept by our engine.
 use Prim.Native.Nat.{ℕ, _+_, _≤_, _<_}
-use mathlib.Core.Path.{_≡_, refl, sym, ap, subst, _∙_}
-use mathlib.Core.Bool.{Bool, true, false, cond}
-use mathlib.Core.List.{List, _++_, append-nil, List·Memᴰ·append-cases, Memᴰ·append-right}
+use mathlib.Core.Path.{_≡_, sym, ap, subst, _∙_}
+use mathlib.Core.List.{List, _++_, List·Memᴰ·append-cases, Memᴰ·append-left, Memᴰ·append-right}
 use mathlib.Core.Logic.{_↔_, ⊎-elim}
 use native.Mathlib.Omega.{arith}
-use native.Mathlib.Nat.{le-refl}
-use lib.Dec.{ltb}
-use lib.ListN.{length, drop, length-append, length-replicate, drop-of-length-le}
+use lib.ListN.{length, take, drop, length-append, length-replicate}
+use lib.Seq.{take-append-seam}
 use borrow.Author.Tests.{ltb-true, le-ltb}
 use Rattle.theory.specs.Words.{wordLimit}
 use Rattle.theory.specs.Nets.{Kind, Net}
@@ -15,49 +13,49 @@ use Rattle.theory.specs.Marks.{blank}
 use Rattle.theory.specs.Completion.{complete}
 use Rattle.theory.specs.Completion as theory
 use Rattle.theory.proofs.Completing.{complete-completed, completed-unique}
+use Rattle.theory.proofs.Order.{Among}
 use Rattle.theory.proofs.Demand3.{complete-net, complete-again, complete-part, alike as complete-alike, joining-keeps, others-keep, SameAnswer}
-use Rattle.net.proofs.NetCheck.{net-is-checked}
-use Rattle.scan_start.specs.Starts.{cleared}
-use Rattle.completion.specs.Table.{Completion, completion, completedBy, completionNet, completionChecked, completedRow}
+use Rattle.completion.specs.Table.{Completion, completedBy, completedRow}
 use Rattle.completion.specs.declared.Completed.{Completed}
 use Rattle.completion.specs.declared.Completed.the-variants as completed
-use Rattle.promises.specs.Engines.{ours}
+use Rattle.promises.specs.Engines.{Engine, ours}
 use Rattle.promises.specs.Demand3.{CompletesTo, Joined, SameWord, Demand3}
 use Rattle.promises.proofs.Demand1.{completion-obeys}
 use Rattle.promises.proofs.Tests.{past-line-3}
+use Rattle.promises.proofs.Reordered.{completion-order}
 use Rattle.promises.proofs.NetAnswers.{same-word, keeps-said, word-same}
 
 -- Two nets joined inside the limit are a net.
 pub joined-net : (o k : ℕ) (ws vs : List ℕ) → Joined o k ws vs → Net o k (ws ++ vs)
 joined-net o k ws vs j = record { few = j .left .few; short = j .short; legal = λ w m. ⊎-elim (j .left .legal w) (j .right .legal w) (List·Memᴰ·append-cases ws m) }
 
--- A list of exactly the room of `out` that is filled with `all`, as with `out`, shows that they are one.
-pub filled-same : (all out m : List ℕ) (q : Bool) → ltb (length out) (length all) ≡ q
-    → cond q (completion (completed.Short (length all)) m out) (completion (completed.Done (length all)) m (all ++ drop (length all) out))
-    ≡ completion (completed.Done (length out)) m (out ++ drop (length out) out) → all ≡ out
-filled-same all out m true e h = absurd (eight (ap (λ (r : Completion). completedRow (r .answer) .number) h))
-  where
-    eight : _≡_ {A = ℕ} 8 0 → ⊥
-    eight p = omega arith
-filled-same all out m false e h =
-    let size : length all ≡ length out = ap (λ (r : Completion). completedRow (r .answer) .first) h in
-    sym (append-nil all)
-    ∙ (rw (drop-of-length-le {A = ℕ} out {i = length all} (omega arith), drop-of-length-le {A = ℕ} out {i = length out} (omega arith)) at (ap (λ (r : Completion). r .list) h))
-    ∙ append-nil out
+-- Joined the other way round they may be joined as well, and have the same words.
+turned : (o k : ℕ) (ws vs : List ℕ) → Joined o k ws vs → Joined o k vs ws
+turned o k ws vs j = record { left = j .right; right = j .left; short = omega (arith, j .short, length-append ws vs, length-append vs ws) }
+
+among-turned : (ws vs : List ℕ) → Among (ws ++ vs) (vs ++ ws)
+among-turned ws vs w m = ⊎-elim (Memᴰ·append-right vs) (Memᴰ·append-left ws) (List·Memᴰ·append-cases ws m)
+
+-- No engine completes a net to two lists: lent a list that has room for both, it gives the size of each and writes each.
+pub completes-once : (e : Engine) (o k : ℕ) (ws a b : List ℕ) → CompletesTo e o k ws a → CompletesTo e o k ws b → a ≡ b
+completes-once e o k ws a b c d =
+    let room : length (blank (o + k)) ≡ o + k = length-replicate {A = ℕ} (o + k) 0 in
+    let long : length (a ++ b) ≡ length a + length b = length-append a b in
+    let p = sym (c (blank (o + k)) (a ++ b) (omega arith) (omega arith)) ∙ d (blank (o + k)) (a ++ b) (omega arith) (omega arith) in
+    let size : length a ≡ length b = ap (λ (r : Completion). completedRow (r .answer) .first) p in
+    sym (take-append-seam a (drop (length a) (a ++ b)))
+    ∙ ap (λ (r : Completion). take (length a) (r .list)) p
+    ∙ ap (λ (i : ℕ). take i (b ++ drop (length b) (a ++ b))) size
+    ∙ take-append-seam b (drop (length b) (a ++ b))
 
 module _ (o k : ℕ) where
   -- Our engine completes a net to its completed list.
   completes-to : (ws : List ℕ) → Net o k ws → CompletesTo ours o k ws (complete o k ws)
-  unfolding completionChecked completionNet
-  completes-to ws n m l h i = rw (net-is-checked o k ws n, le-ltb (length m) (o + k) h, le-ltb (length l) (length (complete o k ws)) i)
+  completes-to ws n m l h i = let t = past-line-3 o k ws .1 n in rw (t .0, t .1, t .2, le-ltb (length m) (o + k) h, le-ltb (length l) (length (complete o k ws)) i)
 
   -- And to no other.
   completes-only : (ws out : List ℕ) → Net o k ws → CompletesTo ours o k ws out → complete o k ws ≡ out
-  unfolding completionChecked completionNet
-  completes-only ws out n c =
-      let room : length (blank (o + k)) ≡ o + k = length-replicate {A = ℕ} (o + k) 0 in
-      filled-same (complete o k ws) out (cleared (o + k) (blank (o + k))) (ltb (length out) (length (complete o k ws))) refl
-      (rw (net-is-checked o k ws n, le-ltb (length (blank (o + k))) (o + k) (omega arith)) at (c (blank (o + k)) out (omega arith) (le-refl (length out))))
+  completes-only ws out n = completes-once ours o k ws (complete o k ws) out (completes-to ws n)
 
 module _ (o k : ℕ) where
   part-first : (ws vs out all : List ℕ) → Joined o k ws vs → CompletesTo ours o k ws out → length (out ++ vs) ≤ wordLimit
@@ -79,6 +77,21 @@ module _ (o k : ℕ) where
       p : complete o k (out ++ vs) ≡ complete o k (ws ++ vs)
       p = subst (λ (l : List ℕ). complete o k (l ++ vs) ≡ complete o k (ws ++ vs)) a
           (complete-part o k ws vs (j .left) whole (subst (λ (l : List ℕ). Net o k (l ++ vs)) (sym a) n))
+
+  -- Our engine completes a joined net like the same parts joined the other way round.
+  either-way : (ws vs all : List ℕ) → Joined o k ws vs → CompletesTo ours o k (ws ++ vs) all → CompletesTo ours o k (vs ++ ws) all
+  either-way ws vs all j c m l h i =
+      sym (completion-order o k (ws ++ vs) (vs ++ ws) (joined-net o k ws vs j) (joined-net o k vs ws (turned o k ws vs j)) (among-turned ws vs) (among-turned vs ws) m l)
+      ∙ c m l h i
+
+  part-last : (ws vs out all : List ℕ) → Joined o k ws vs → CompletesTo ours o k vs out → length (ws ++ out) ≤ wordLimit
+      → CompletesTo ours o k (ws ++ vs) all ↔ CompletesTo ours o k (ws ++ out) all
+  part-last ws vs out all j c h =
+      let t = turned o k ws vs j in
+      let n : Net o k out = subst (Net o k) (completes-only o k vs out (j .right) c) (complete-net o k vs (j .right)) in
+      let r : Joined o k ws out = record { left = j .left; right = n; short = h } in
+      let f = part-first vs ws out all t c (turned o k ws out r .short) in
+      ((λ d. either-way out ws all (turned o k ws out r) (f .0 (either-way ws vs all j d))), λ d. either-way vs ws all t (f .1 (either-way ws out all r d)))
 
   alike-exactly : (ws vs a b : List ℕ) → Net o k ws → Net o k vs → CompletesTo ours o k ws a → CompletesTo ours o k vs b
       → (a ≡ b) ↔ ((us : List ℕ) → Joined o k ws us → Joined o k vs us → SameWord ours o k (ws ++ us) (vs ++ us))
@@ -129,6 +142,7 @@ demand-3 = record {
       let a = completes-only o k ws out n c in
       subst (λ (l : List ℕ). CompletesTo ours o k l l) a (subst (CompletesTo ours o k (complete o k ws)) (complete-again o k ws n) (completes-to o k (complete o k ws) (complete-net o k ws n)));
   part = part-first;
+  partRight = part-last;
   alike = alike-exactly;
   keeps = λ o k ws vs j x y m s. keeps-said o k x y m ws (ws ++ vs) (j .left) (joined-net o k ws vs j) s (joining-keeps o k ws vs (j .left) (joined-net o k ws vs j) x y s);
   others = λ o k ws vs j a h f x y m q.

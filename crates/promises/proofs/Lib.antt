@@ -1,8 +1,8 @@
 pub mod Deciding
-pub mod Called
 pub mod Demand1
 pub mod Clashes
 pub mod Tests
+pub mod Clashing
 pub mod Plain
 pub mod SmallestSet
 pub mod Answered
@@ -10,9 +10,11 @@ pub mod Demand2
 pub mod Objects
 pub mod Orders
 pub mod Reasoning
+pub mod PlainAsked
 pub mod Reordered
 pub mod NetAnswers
 pub mod Demand3
+pub mod FromKind
 pub mod Uniqueness
 pub mod Readings
 pub mod AskM

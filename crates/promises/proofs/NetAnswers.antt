@@ -1,22 +1,22 @@
 -- What our engine answers to a question over a net: the word is that of one byte, so nets with the same bytes give the same words.
-use Prim.Native.Nat.{ℕ, _+_, _*_, _<_}
+use Prim.Native.Nat.{ℕ, _+_, _<_}
 use mathlib.Core.Path.{_≡_, refl, sym, ap, _∙_}
-use mathlib.Core.Bool.{Bool, true, false, cond, _||_}
+use mathlib.Core.Bool.{Bool, true, false, cond}
 use mathlib.Core.List.{List}
 use native.Mathlib.Omega.{arith}
-use lib.Dec.{ltb, leb}
+use lib.Dec.{ltb}
 use lib.ListN.{length, getD, drop, length-replicate}
-use borrow.Author.Tests.{ltb-false, le-ltb, lt-leb, leb-false}
-use Rattle.theory_laws.proofs.Booleans.{or-none-left, or-none-right}
+use borrow.Author.Tests.{le-ltb}
 use Rattle.theory.specs.Words.{Sign, is, isnt}
 use Rattle.theory.specs.Nets.{Kind, Net}
 use Rattle.theory.specs.Marks.{has, blank, markerOf}
-use Rattle.theory.specs.Scans.{forwardScan}
+use Rattle.theory.specs.Scans.{fullScan}
 use Rattle.theory.specs.Completion.{fullMarks}
 use Rattle.theory.proofs.Demand3.{SameAnswer}
 use Rattle.net.specs.Table.{badPair}
 use Rattle.net.specs.declared.Refusal.the-variants.{BadQuestion, ShortBuffer}
 use Rattle.net.proofs.NetCheck.{net-is-checked}
+use Rattle.net.proofs.Good.{good-pair, good-kind}
 use Rattle.question.specs.Table.{Question, question, questionLines, questionDone, questioned, answerAt, readAt}
 use Rattle.net.proofs.OnNet.{gone-on}
 use Rattle.question.specs.declared.Answer.{Answer}
@@ -39,16 +39,8 @@ answer-same b c e s = sym (answer-says b s) ∙ ap (λ (a : Answer). says a s) e
 
 module _ (o k x y : ℕ) where
   -- A good question is about a node and a kind.
-  good-node : badPair o (o + k) x y ≡ false → x < o + k
-  good-node e = leb-false (o + k) x (or-none-left (leb (o + k) x) (ltb y o || leb (o + k) y) e)
-
-  good-kind : badPair o (o + k) x y ≡ false → Kind o k y
-  good-kind e =
-      let r = or-none-right (leb (o + k) x) (ltb y o || leb (o + k) y) e in
-      record { low = ltb-false y o (or-none-left (ltb y o) (leb (o + k) y) r); high = leb-false (o + k) y (or-none-right (ltb y o) (leb (o + k) y) r) }
-
-  good-pair : x < o + k → Kind o k y → badPair o (o + k) x y ≡ false
-  good-pair h g = rw (lt-leb (o + k) x h, le-ltb y o (g .low), lt-leb (o + k) y (g .high))
+  good : badPair o (o + k) x y ≡ false → (x < o + k) × Kind o k y
+  good e = let g = good-pair o (o + k) x y .0 e in (g .node, good-kind g)
 
   module _ (m : List ℕ) where
     -- The answer over a net, by the two tests and the byte.
@@ -56,15 +48,15 @@ module _ (o k x y : ℕ) where
     answer bad short b count = cond bad (asked.Refused BadQuestion) (cond short (asked.Refused ShortBuffer) (asked.Done (answerAt b) count))
 
     net-answer : (ws : List ℕ) → Net o k ws
-        → questioned o k ws x y m .answer ≡ answer (badPair o (o + k) x y) (ltb (length m) (o + k)) (byte o k ws x y) (forwardScan (o + k) ws x (2 * (o + k)) .count)
+        → questioned o k ws x y m .answer ≡ answer (badPair o (o + k) x y) (ltb (length m) (o + k)) (byte o k ws x y) (fullScan (o + k) ws x .count)
     net-answer ws n =
         ap (λ (q : Question). q .answer) (sym (gone-on (λ r. question (asked.Refused r) m) o k ws (questionLines o x y m) (questionDone ws x y m) (net-is-checked o k ws n) refl))
         ∙ at (badPair o (o + k) x y) (ltb (length m) (o + k))
       where
         at : (p q : Bool)
             → cond p (question (asked.Refused BadQuestion) m)
-            (cond q (question (asked.Refused ShortBuffer) m) (readAt y (forwardScan (o + k) ws x (2 * (o + k))) (drop (o + k) m))) .answer
-            ≡ answer p q (byte o k ws x y) (forwardScan (o + k) ws x (2 * (o + k)) .count)
+            (cond q (question (asked.Refused ShortBuffer) m) (readAt y (fullScan (o + k) ws x) (drop (o + k) m))) .answer
+            ≡ answer p q (byte o k ws x y) (fullScan (o + k) ws x .count)
         at true q = refl
         at false true = refl
         at false false = refl
@@ -75,11 +67,11 @@ module _ (o k x y : ℕ) where
     same-word ws vs n r f = rw (net-answer ws n, net-answer vs r) (at (badPair o (o + k) x y) (ltb (length m) (o + k)) refl)
       where
         at : (p q : Bool) → badPair o (o + k) x y ≡ p
-            → wordOf (answer p q (byte o k ws x y) (forwardScan (o + k) ws x (2 * (o + k)) .count))
-            ≡ wordOf (answer p q (byte o k vs x y) (forwardScan (o + k) vs x (2 * (o + k)) .count))
+            → wordOf (answer p q (byte o k ws x y) (fullScan (o + k) ws x .count))
+            ≡ wordOf (answer p q (byte o k vs x y) (fullScan (o + k) vs x .count))
         at true q e = refl
         at false true e = refl
-        at false false e = ap (λ (a : Answer). asked.Done a 0) (same-answer (byte o k ws x y) (byte o k vs x y) (f (good-node e) (good-kind e)))
+        at false false e = ap (λ (a : Answer). asked.Done a 0) (same-answer (byte o k ws x y) (byte o k vs x y) (f (good e .0) (good e .1)))
 
     -- A yes or a no that a byte gives and another keeps.
     pub keeps-said : (ws vs : List ℕ) → Net o k ws → Net o k vs → (s : Sign)
@@ -88,11 +80,11 @@ module _ (o k x y : ℕ) where
     keeps-said ws vs n r s f = rw (net-answer ws n, net-answer vs r) (at (badPair o (o + k) x y) (ltb (length m) (o + k)) refl)
       where
         at : (p q : Bool) → badPair o (o + k) x y ≡ p
-            → saidBy (answer p q (byte o k ws x y) (forwardScan (o + k) ws x (2 * (o + k)) .count)) s ≡ true
-            → saidBy (answer p q (byte o k vs x y) (forwardScan (o + k) vs x (2 * (o + k)) .count)) s ≡ true
+            → saidBy (answer p q (byte o k ws x y) (fullScan (o + k) ws x .count)) s ≡ true
+            → saidBy (answer p q (byte o k vs x y) (fullScan (o + k) vs x .count)) s ≡ true
         at true q e h = h
         at false true e h = h
-        at false false e h = answer-says (byte o k vs x y) s ∙ f (good-node e) (good-kind e) (sym (answer-says (byte o k ws x y) s) ∙ h)
+        at false false e h = answer-says (byte o k vs x y) s ∙ f (good e .0) (good e .1) (sym (answer-says (byte o k ws x y) s) ∙ h)
 
   -- Nets that give the same word to a good question answer alike.
   pub word-same : (ws vs : List ℕ) → Net o k ws → Net o k vs → x < o + k → Kind o k y
@@ -100,5 +92,5 @@ module _ (o k x y : ℕ) where
   word-same ws vs n r h g e =
       let room : length (blank (o + k)) ≡ o + k = length-replicate {A = ℕ} (o + k) 0 in
       let w : asked.Done (answerAt (byte o k ws x y)) 0 ≡ asked.Done (answerAt (byte o k vs x y)) 0 =
-      rw (net-answer (blank (o + k)) ws n, net-answer (blank (o + k)) vs r, good-pair h g, le-ltb (length (blank (o + k))) (o + k) (omega arith)) at e in
+      rw (net-answer (blank (o + k)) ws n, net-answer (blank (o + k)) vs r, good-pair o (o + k) x y .1 (record { node = h; low = g .low; high = g .high }), le-ltb (length (blank (o + k))) (o + k) (omega arith)) at e in
       answer-same (byte o k ws x y) (byte o k vs x y) cc

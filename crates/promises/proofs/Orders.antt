@@ -25,6 +25,7 @@ use Rattle.scan_round.specs.Turns.{commands}
 use Rattle.net.specs.Lines.{call}
 use Rattle.net.specs.declared.Refusal.{Refusal}
 use Rattle.net.proofs.OnNet.{gone-on}
+use Rattle.net.proofs.Good.{good-pair}
 use Rattle.question.specs.Table.{Question, question, questionLines, questionDone, questioned, readAt}
 use Rattle.question.specs.declared.Asked.the-variants as asked
 
@@ -72,5 +73,5 @@ module _ (o k : ℕ) (ws vs : List ℕ) (n : Net o k ws) (p : Net o k vs) (to : 
       let refused : Refusal → Question = λ r. question (asked.Refused r) m in
       sym (gone-on refused o k ws (questionLines o x y m) (questionDone ws x y m) (net-is-checked o k ws n) refl)
       ∙ after-tests (badPair o (o + k) x y) (ltb (length m) (o + k)) _ _
-      (λ e. ap (λ (s : Scan). readAt y s (drop (o + k) m)) (forward-same x (2 * (o + k)) (leb-false (o + k) x (or-none-left (leb (o + k) x) _ e))))
+      (λ e. ap (λ (s : Scan). readAt y s (drop (o + k) m)) (forward-same x (2 * (o + k)) (good-pair o (o + k) x y .0 e .node)))
       ∙ gone-on refused o k vs (questionLines o x y m) (questionDone vs x y m) (net-is-checked o k vs p) refl

@@ -1,77 +1,148 @@
--- The number table of the forward scan read aloud: each number in plain terms. The other operations' tables read the same way.
+-- The number tables of the check of a net, the scans, the clash test and the completion read aloud: each number in plain terms. The question, the
+-- reason and the reason check stand in `PlainAsked`.
 use Prim.Native.Nat.{ℕ, _+_, _≤_, _<_}
-use mathlib.Core.Path.{_≡_, refl}
-use mathlib.Core.Bool.{Bool, false, not}
-use mathlib.Core.List.{List}
+use mathlib.Core.Path.{_≡_, refl, ap, subst}
+use mathlib.Core.Bool.{true, false}
+use mathlib.Core.List.{List, _∷_}
 use mathlib.Core.Logic.{_↔_}
-use native.Mathlib.Omega.{arith}
-use native.Mathlib.Decide.{decLt}
-use lib.Dec.{ltb, leb}
+use lib.Dec.{ltb}
 use lib.ListN.{length}
-use borrow.Author.Tests.{ltb-false, le-ltb, leb-false, lt-leb}
-use Rattle.theory_laws.proofs.Booleans.{clash, not-so}
+use borrow.Author.Tests.{ltb-false, le-ltb}
 use Rattle.theory.specs.Words.{nodeLimit, wordLimit}
-use Rattle.theory.specs.Nets.{Net}
-use Rattle.theory.specs.Marks.{forward, forwardStart}
-use Rattle.theory.specs.Scans.{Count, forwardScan}
-use Rattle.theory_laws.proofs.Deciding.{Decides}
+use Rattle.theory.specs.Nets.{Kind, Net}
+use Rattle.theory.specs.Marks.{forward, kindly, forwardStart, kindStart}
+use Rattle.theory.specs.Scans.{Count}
 use Rattle.net.specs.Legal.{legalPrefix}
+use Rattle.net.specs.Lines.{Line, line}
+use Rattle.net.specs.Table.{checkNet}
 use Rattle.net.proofs.NetCheck.{FirstIllegal}
-use Rattle.scan.specs.Table.{forwardScanned}
-use Rattle.promises.specs.Numbers.{scanNumber}
-use Rattle.promises.proofs.Demand1.{forward-obeys}
-use Rattle.promises.proofs.Tests.{line-1, line-2, line-3, past-line-3, line-4-start, line-5, line-6}
+use Rattle.scan.specs.Table.{forwardScanned, kindScanned}
+use Rattle.theory.specs.Completion.{Completed, complete}
+use Rattle.theory.proofs.Completing.{complete-completed, completed-unique}
+use Rattle.clash.specs.Table.{clashedBy}
+use Rattle.completion.specs.Table.{completedBy}
+use Rattle.promises.specs.Numbers.{checkedNumber, scanNumber, clashNumber, completionNumber}
+use Rattle.promises.specs.Tables.{Obeys}
+use Rattle.promises.specs.Clashing.{ClashAt}
+use Rattle.promises.proofs.Clashes.{some-clash-exactly}
+use Rattle.promises.proofs.Demand1.{net-obeys, forward-obeys, kind-obeys, clash-obeys, completion-obeys}
+use Rattle.promises.proofs.Tests.{line-1, line-2, line-3, past-line-3, node-exactly, line-4-start, kind-exactly, line-4-kind, line-5, within-exactly, line-6, line-7-clash, line-8}
 
 -- One way of saying it, then another.
-then : {A B C : Type 0} → A ↔ B → B ↔ C → A ↔ C
+pub then : {A B C : Type 0} → A ↔ B → B ↔ C → A ↔ C
 then f g = ((λ a. g .0 (f .0 a)), λ c. f .1 (g .1 c))
 
--- Both parts said otherwise.
-both : {A B C D : Type 0} → A ↔ B → C ↔ D → (A × C) ↔ (B × D)
-both f g = ((λ p. (f .0 (p .0), g .0 (p .1))), λ p. (f .1 (p .0), g .1 (p .1)))
+-- Both parts said otherwise, the second where the first holds.
+pub and-then : {A B C D : Type 0} → A ↔ B → (B → C ↔ D) → (A × C) ↔ (B × D)
+and-then f g = ((λ p. let b = f .0 (p .0) in (b, g b .0 (p .1))), λ p. (f .1 (p .0), g (p .0) .1 (p .1)))
+
+pub both : {A B C D : Type 0} → A ↔ B → C ↔ D → (A × C) ↔ (B × D)
+both f g = and-then f (λ b. g)
+
+-- A statement, and an equation that holds anyway.
+pub first-only : {A B : Type 0} {n : ℕ} → A ↔ B → (A × (n ≡ n)) ↔ B
+first-only f = ((λ p. f .0 (p .0)), λ b. (f .1 b, refl))
 
 -- A number is not below another exactly if that is at most it.
 pub at-least : (a b : ℕ) → (ltb a b ≡ false) ↔ (b ≤ a)
 at-least a b = (ltb-false a b, le-ltb a b)
 
 -- Past lines 1, 2 and 3 there is a net.
+pub over-net : (o k : ℕ) (ws : List ℕ) {D E : Type 0} → (Net o k ws → D ↔ E)
+    → ((ltb nodeLimit (o + k) ≡ false) × ((ltb wordLimit (length ws) ≡ false) × ((ltb (legalPrefix o (o + k) ws) (length ws) ≡ false) × D))) ↔ (Net o k ws × E)
+over-net o k ws f = (
+  (λ p. let net = past-line-3 o k ws .0 (p .0, p .1 .0, p .1 .1 .0) in (net, f net .0 (p .1 .1 .1))),
+  λ p. let t = past-line-3 o k ws .1 (p .0) in (t .0, (t .1, (t .2, f (p .0) .1 (p .1)))),
+)
+
 pub past-net : (o k : ℕ) (ws : List ℕ) {D E : Type 0} → D ↔ E
     → ((ltb nodeLimit (o + k) ≡ false) × ((ltb wordLimit (length ws) ≡ false) × ((ltb (legalPrefix o (o + k) ws) (length ws) ≡ false) × D))) ↔ (Net o k ws × E)
-past-net o k ws f = (
-  (λ p. (past-line-3 o k ws .0 (p .0, p .1 .0, p .1 .1 .0), f .0 (p .1 .1 .1))),
-  λ p. let t = past-line-3 o k ws .1 (p .0) in (t .0, (t .1, (t .2, f .1 (p .1)))),
-)
+past-net o k ws f = over-net o k ws (λ net. f)
 
--- A scan that is not spent has its count within the budget.
-within : (d : Bool) (budget c : ℕ) → Decides (not d) (budget < c) → (not d ≡ false) ↔ (c ≤ budget)
-within d budget c h = (
-  (λ e. at (decLt budget c) e),
-  λ l. not-so (not d) (λ e. absurd (below (h .0 e) l)),
-)
-  where
-    below : budget < c → c ≤ budget → ⊥
-    below p q = omega arith
-
-    at : Dec (budget < c) → not d ≡ false → c ≤ budget
-    at (yes l) e = clash (rw e at (h .1 l))
-    at (no l) e = omega arith
-
-module _ (o k : ℕ) (ws : List ℕ) (x budget : ℕ) (m : List ℕ) where
+-- Numbers 1, 2 and 3 of every operation on a net.
+module _ {A : Type 0} {number : A → ℕ} {a b c : A} {rest : List (Line A)} {done r : A} (o k : ℕ) (ws : List ℕ)
+    (h : Obeys number (line 1 (ltb nodeLimit (o + k)) a ∷ line 2 (ltb wordLimit (length ws)) b ∷ line 3 (ltb (legalPrefix o (o + k) ws) (length ws)) c ∷ rest) done r) where
   -- 1: there are more than 1,024 nodes.
-  pub forward-1 : (scanNumber (forwardScanned o k ws x budget m) ≡ 1) ↔ (1024 < o + k)
-  forward-1 = then (forward-obeys o k ws x budget m .exactly 1) (line-1 o k ws)
+  pub number-1 : (number r ≡ 1) ↔ (1024 < o + k)
+  number-1 = then (h .exactly 1) (line-1 o k ws)
 
   -- 2: the nodes are few enough, and there are more than 2,097,152 words.
-  pub forward-2 : (scanNumber (forwardScanned o k ws x budget m) ≡ 2) ↔ ((o + k ≤ 1024) × (2097152 < length ws))
-  forward-2 = then (forward-obeys o k ws x budget m .exactly 2) (both (at-least nodeLimit (o + k)) (line-2 o k ws))
+  pub number-2 : (number r ≡ 2) ↔ ((o + k ≤ 1024) × (2097152 < length ws))
+  number-2 = then (h .exactly 2) (both (at-least nodeLimit (o + k)) (line-2 o k ws))
 
   -- 3: nodes and words are few enough, and there is a first illegal word.
+  pub number-3 : (number r ≡ 3) ↔ ((o + k ≤ 1024) × ((length ws ≤ 2097152) × FirstIllegal o k ws (legalPrefix o (o + k) ws)))
+  number-3 = then (h .exactly 3) (both (at-least nodeLimit (o + k)) (both (at-least wordLimit (length ws)) (line-3 o k ws)))
+
+-- ── the check of a net ──
+
+module _ (o k : ℕ) (ws : List ℕ) where
+  -- 1, 2 and 3 as in every table: too many nodes; too many words; a first illegal word.
+  pub net-1 : (checkedNumber (checkNet o k ws) ≡ 1) ↔ (1024 < o + k)
+  net-1 = number-1 o k ws (net-obeys o k ws)
+
+  pub net-2 : (checkedNumber (checkNet o k ws) ≡ 2) ↔ ((o + k ≤ 1024) × (2097152 < length ws))
+  net-2 = number-2 o k ws (net-obeys o k ws)
+
+  pub net-3 : (checkedNumber (checkNet o k ws) ≡ 3)
+      ↔ ((o + k ≤ 1024) × ((length ws ≤ 2097152) × FirstIllegal o k ws (legalPrefix o (o + k) ws)))
+  net-3 = number-3 o k ws (net-obeys o k ws)
+
+  -- 0: it is a net.
+  pub net-0 : (checkedNumber (checkNet o k ws) ≡ 0) ↔ Net o k ws
+  net-0 = then (net-obeys o k ws .exactly 0) (
+    (λ p. past-line-3 o k ws .0 (p .0, p .1 .0, p .1 .1 .0)),
+    λ net. let t = past-line-3 o k ws .1 net in (t .0, (t .1, (t .2, refl))),
+  )
+
+-- ── the kind scan ──
+
+module _ (o k : ℕ) (ws : List ℕ) (y budget : ℕ) (m : List ℕ) where
+  -- 1, 2 and 3 as in every table: too many nodes; too many words; a first illegal word.
+  pub kind-1 : (scanNumber (kindScanned o k ws y budget m) ≡ 1) ↔ (1024 < o + k)
+  kind-1 = number-1 o k ws (kind-obeys o k ws y budget m)
+
+  pub kind-2 : (scanNumber (kindScanned o k ws y budget m) ≡ 2) ↔ ((o + k ≤ 1024) × (2097152 < length ws))
+  kind-2 = number-2 o k ws (kind-obeys o k ws y budget m)
+
+  pub kind-3 : (scanNumber (kindScanned o k ws y budget m) ≡ 3)
+      ↔ ((o + k ≤ 1024) × ((length ws ≤ 2097152) × FirstIllegal o k ws (legalPrefix o (o + k) ws)))
+  kind-3 = number-3 o k ws (kind-obeys o k ws y budget m)
+
+  -- 4: over a net, the start is no kind.
+  pub kind-4 : (scanNumber (kindScanned o k ws y budget m) ≡ 4) ↔ (Net o k ws × (Kind o k y → ⊥))
+  kind-4 = then (kind-obeys o k ws y budget m .exactly 4) (past-net o k ws (line-4-kind o k ws y))
+
+  -- 5: over a net and from a kind, the marks are too short.
+  pub kind-5 : (scanNumber (kindScanned o k ws y budget m) ≡ 5) ↔ (Net o k ws × (Kind o k y × (length m < o + k)))
+  kind-5 = then (kind-obeys o k ws y budget m .exactly 5) (past-net o k ws (both (kind-exactly o k ws y) (line-5 o k ws m)))
+
+  module _ (c : ℕ) (count : Count kindly ws (kindStart (o + k) y) c) where
+    -- 6: nothing else is wrong, and the count c is above the budget.
+    pub kind-6 : (scanNumber (kindScanned o k ws y budget m) ≡ 6) ↔ (Net o k ws × (Kind o k y × ((o + k ≤ length m) × (budget < c))))
+    kind-6 =
+        then (kind-obeys o k ws y budget m .exactly 6)
+        (past-net o k ws (both (kind-exactly o k ws y) (both (at-least (length m) (o + k)) (line-6 kindly ws (kindStart (o + k) y) budget c count))))
+
+    -- 0: nothing is wrong, and the count is within the budget.
+    pub kind-0 : (scanNumber (kindScanned o k ws y budget m) ≡ 0) ↔ (Net o k ws × (Kind o k y × ((o + k ≤ length m) × (c ≤ budget))))
+    kind-0 =
+        then (kind-obeys o k ws y budget m .exactly 0)
+        (past-net o k ws (both (kind-exactly o k ws y) (both (at-least (length m) (o + k)) (first-only (within-exactly kindly ws (kindStart (o + k) y) budget c count)))))
+
+-- ── the forward scan ──
+
+module _ (o k : ℕ) (ws : List ℕ) (x budget : ℕ) (m : List ℕ) where
+  -- 1, 2 and 3 as in every table: too many nodes; too many words; a first illegal word.
+  pub forward-1 : (scanNumber (forwardScanned o k ws x budget m) ≡ 1) ↔ (1024 < o + k)
+  forward-1 = number-1 o k ws (forward-obeys o k ws x budget m)
+
+  pub forward-2 : (scanNumber (forwardScanned o k ws x budget m) ≡ 2) ↔ ((o + k ≤ 1024) × (2097152 < length ws))
+  forward-2 = number-2 o k ws (forward-obeys o k ws x budget m)
+
   pub forward-3 : (scanNumber (forwardScanned o k ws x budget m) ≡ 3)
       ↔ ((o + k ≤ 1024) × ((length ws ≤ 2097152) × FirstIllegal o k ws (legalPrefix o (o + k) ws)))
-  forward-3 = then (forward-obeys o k ws x budget m .exactly 3) (both (at-least nodeLimit (o + k)) (both (at-least wordLimit (length ws)) (line-3 o k ws)))
-
-  node : (leb (o + k) x ≡ false) ↔ (x < o + k)
-  node = (leb-false (o + k) x, lt-leb (o + k) x)
+  forward-3 = number-3 o k ws (forward-obeys o k ws x budget m)
 
   -- 4: over a net, the start is no node.
   pub forward-4 : (scanNumber (forwardScanned o k ws x budget m) ≡ 4) ↔ (Net o k ws × (x < o + k → ⊥))
@@ -79,22 +150,79 @@ module _ (o k : ℕ) (ws : List ℕ) (x budget : ℕ) (m : List ℕ) where
 
   -- 5: over a net and from a node, the marks are too short.
   pub forward-5 : (scanNumber (forwardScanned o k ws x budget m) ≡ 5) ↔ (Net o k ws × ((x < o + k) × (length m < o + k)))
-  forward-5 = then (forward-obeys o k ws x budget m .exactly 5) (past-net o k ws (both node (line-5 o k ws m)))
+  forward-5 = then (forward-obeys o k ws x budget m .exactly 5) (past-net o k ws (both (node-exactly o k ws x) (line-5 o k ws m)))
 
   module _ (c : ℕ) (count : Count forward ws (forwardStart (o + k) x) c) where
     -- 6: nothing else is wrong, and the count c is above the budget.
     pub forward-6 : (scanNumber (forwardScanned o k ws x budget m) ≡ 6) ↔ (Net o k ws × ((x < o + k) × ((o + k ≤ length m) × (budget < c))))
     forward-6 =
         then (forward-obeys o k ws x budget m .exactly 6)
-        (past-net o k ws (both node (both (at-least (length m) (o + k)) (line-6 forward ws (forwardStart (o + k) x) budget c count))))
+        (past-net o k ws (both (node-exactly o k ws x) (both (at-least (length m) (o + k)) (line-6 forward ws (forwardStart (o + k) x) budget c count))))
 
     -- 0: nothing is wrong, and the count is within the budget.
     pub forward-0 : (scanNumber (forwardScanned o k ws x budget m) ≡ 0) ↔ (Net o k ws × ((x < o + k) × ((o + k ≤ length m) × (c ≤ budget))))
     forward-0 =
         then (forward-obeys o k ws x budget m .exactly 0)
-        (past-net o k ws (both node (both (at-least (length m) (o + k)) last)))
+        (past-net o k ws (both (node-exactly o k ws x) (both (at-least (length m) (o + k)) (first-only (within-exactly forward ws (forwardStart (o + k) x) budget c count)))))
+
+-- ── the clash test ──
+
+module _ (o k : ℕ) (ws m : List ℕ) where
+  -- 1, 2 and 3 as of a scan.
+  pub clash-1 : (clashNumber (clashedBy o k ws m) ≡ 1) ↔ (1024 < o + k)
+  clash-1 = number-1 o k ws (clash-obeys o k ws m)
+
+  pub clash-2 : (clashNumber (clashedBy o k ws m) ≡ 2) ↔ ((o + k ≤ 1024) × (2097152 < length ws))
+  clash-2 = number-2 o k ws (clash-obeys o k ws m)
+
+  pub clash-3 : (clashNumber (clashedBy o k ws m) ≡ 3) ↔ ((o + k ≤ 1024) × ((length ws ≤ 2097152) × FirstIllegal o k ws (legalPrefix o (o + k) ws)))
+  clash-3 = number-3 o k ws (clash-obeys o k ws m)
+
+  -- 5: over a net, the marks are too short.
+  pub clash-5 : (clashNumber (clashedBy o k ws m) ≡ 5) ↔ (Net o k ws × (length m < o + k))
+  clash-5 = then (clash-obeys o k ws m .exactly 5) (past-net o k ws (line-5 o k ws m))
+
+  -- 7: over a net and with marks long enough, no object clashes.
+  pub clash-7 : (clashNumber (clashedBy o k ws m) ≡ 7) ↔ (Net o k ws × ((o + k ≤ length m) × ((x y : ℕ) → ClashAt o k ws x y → ⊥)))
+  clash-7 = then (clash-obeys o k ws m .exactly 7) (over-net o k ws (λ n. both (at-least (length m) (o + k)) (line-7-clash o k ws n)))
+
+  -- 0: over a net and with marks long enough, some object clashes.
+  pub clash-0 : (clashNumber (clashedBy o k ws m) ≡ 0) ↔ (Net o k ws × ((o + k ≤ length m) × ((x : ℕ) × (y : ℕ) × ClashAt o k ws x y)))
+  clash-0 = then (clash-obeys o k ws m .exactly 0) (over-net o k ws (λ n. both (at-least (length m) (o + k)) (first-only (some-clash-exactly o k ws n))))
+
+-- ── the completion ──
+
+module _ (o k : ℕ) (ws m l : List ℕ) where
+  -- 1, 2 and 3 as of a scan.
+  pub completion-1 : (completionNumber (completedBy o k ws m l) ≡ 1) ↔ (1024 < o + k)
+  completion-1 = number-1 o k ws (completion-obeys o k ws m l)
+
+  pub completion-2 : (completionNumber (completedBy o k ws m l) ≡ 2) ↔ ((o + k ≤ 1024) × (2097152 < length ws))
+  completion-2 = number-2 o k ws (completion-obeys o k ws m l)
+
+  pub completion-3 : (completionNumber (completedBy o k ws m l) ≡ 3)
+      ↔ ((o + k ≤ 1024) × ((length ws ≤ 2097152) × FirstIllegal o k ws (legalPrefix o (o + k) ws)))
+  completion-3 = number-3 o k ws (completion-obeys o k ws m l)
+
+  -- 5: over a net, the marks are too short.
+  pub completion-5 : (completionNumber (completedBy o k ws m l) ≡ 5) ↔ (Net o k ws × (length m < o + k))
+  completion-5 = then (completion-obeys o k ws m l .exactly 5) (past-net o k ws (line-5 o k ws m))
+
+  -- The supported words are those of `out`.
+  module _ (out : List ℕ) (words : Completed o k ws out) where
+    size : Net o k ws → length (complete o k ws) ≡ length out
+    size n = ap (length {A = ℕ}) (completed-unique o k ws (complete o k ws) out (complete-completed o k ws n) words)
+
+    -- 8: over a net and with marks long enough, the list is shorter than the supported words.
+    pub completion-8 : (completionNumber (completedBy o k ws m l) ≡ 8) ↔ (Net o k ws × ((o + k ≤ length m) × (length l < length out)))
+    completion-8 = then (completion-obeys o k ws m l .exactly 8) (over-net o k ws (λ n. both (at-least (length m) (o + k)) (short n)))
       where
-        last : ((not (forwardScan (o + k) ws x budget .done) ≡ false) × (_≡_ {A = ℕ} 0 0)) ↔ (c ≤ budget)
-        last =
-            let w = within (forwardScan (o + k) ws x budget .done) budget c (line-6 forward ws (forwardStart (o + k) x) budget c count) in
-            ((λ p. w .0 (p .0)), λ l. (w .1 l, refl))
+        short : Net o k ws → (ltb (length l) (length (complete o k ws)) ≡ true) ↔ (length l < length out)
+        short n = subst (λ (i : ℕ). (ltb (length l) (length (complete o k ws)) ≡ true) ↔ (length l < i)) (size n) (line-8 l (complete o k ws))
+
+    -- 0: over a net, both have room for what goes there.
+    pub completion-0 : (completionNumber (completedBy o k ws m l) ≡ 0) ↔ (Net o k ws × ((o + k ≤ length m) × (length out ≤ length l)))
+    completion-0 = then (completion-obeys o k ws m l .exactly 0) (over-net o k ws (λ n. both (at-least (length m) (o + k)) (first-only (room n))))
+      where
+        room : Net o k ws → (ltb (length l) (length (complete o k ws)) ≡ false) ↔ (length out ≤ length l)
+        room n = subst (λ (i : ℕ). (ltb (length l) (length (complete o k ws)) ≡ false) ↔ (i ≤ length l)) (size n) (at-least (length l) (length (complete o k ws)))

@@ -10,14 +10,12 @@ use Rattle.theory.specs.Searches.{arcs, level, levels, distances, next, descend
 use Rattle.theory.proofs.Rounds.{same-eq}
 use Rattle.net.specs.Legal.{legalPrefix}
 use Rattle.net.specs.Table.{checkNet}
-use Rattle.clash.specs.Table.{firstBoth, firstClash, clashNet, clashChecked}
-use Rattle.completion.specs.Table.{completionNet, completionChecked}
-use Rattle.reason.specs.Table.{reasonNet, reasonChecked}
+use Rattle.clash.specs.Table.{firstBoth, firstClash}
 use Rattle.promises.specs.Readings.{Entry, readings, allAgree}
 
 -- The statements give every reading as the paper has it.
 pub all-agree : allAgree readings ≡ true
-unfolding allAgree same checkNet legalPrefix after firstBoth firstClash clashNet clashChecked completionNet completionChecked reasonNet reasonChecked rounds round command links link mark complete rows row arcs level levels distances next descend reasonStates firsts reasonList
+unfolding allAgree same checkNet legalPrefix after firstBoth firstClash rounds round command links link mark complete rows row arcs level levels distances next descend reasonStates firsts reasonList
 all-agree = refl
 
 -- Where all entries of a table agree, each is an equation.

@@ -1,48 +1,43 @@
 -- Our engine's reasons are the shortest, and its check accepts exactly the paths that show the statement.
 use Prim.Native.Nat.{ℕ, _+_, _≤_, _<_}
 use mathlib.Core.Path.{_≡_, refl, sym, ap, _∙_}
-use mathlib.Core.Bool.{Bool, true, false, cond, _||_}
+use mathlib.Core.Bool.{Bool, true, false, cond}
 use mathlib.Core.List.{List, _++_}
-use mathlib.Core.Logic.{_⊎_, inl, inr}
 use native.Mathlib.Omega.{arith}
-use lib.Dec.{eqb, ltb, leb}
+use lib.Dec.{eqb}
 use lib.ListN.{length, getD, drop, List·getD-append}
-use borrow.Author.Tests.{leb-false, ltb-true, ltb-false, eqb-false}
-use Rattle.theory_laws.proofs.Booleans.{clash, or-none-left, or-none-right}
+use borrow.Author.Tests.{ltb-true, ltb-false}
+use Rattle.theory_laws.proofs.Booleans.{clash}
 use Rattle.theory.specs.Words.{Sign, signAt}
 use Rattle.theory.specs.Nets.{Kind, Links, Net}
 use Rattle.theory.specs.Support.{Supported}
 use Rattle.theory.specs.Reasons.{written, never, Moves, goal, Distance}
 use Rattle.theory.specs.Searches.{distances}
 use Rattle.theory.specs.Checks.{Passes, passes}
-use Rattle.theory.proofs.Distances.{distances-small, distances-length, distances-right}
-use Rattle.theory.proofs.Reason.{reason-shortest}
+use Rattle.theory.proofs.Distances.{distances-length, distances-right}
+use Rattle.theory.proofs.Reason.{reason-exactly, reason-shortest}
 use Rattle.theory.proofs.Check.{passes-exactly, passes-supported}
+use Rattle.net.specs.Table.{badStatement}
 use Rattle.net.specs.declared.Refusal.{Refusal}
-use Rattle.reason.specs.Table.{Reason, reasoned, reasonedRow}
+use Rattle.net.proofs.Good.{good-statement, good-kind}
+use Rattle.reason.specs.Table.{Reason, filled, reasonOf, reasoned, reasonedRow}
 use Rattle.reason.specs.declared.Reasoned.{Reasoned}
 use Rattle.reason.specs.declared.Reasoned.the-variants as reasonedAs
 use Rattle.reason_check.specs.Table.{verdict, verdictRow}
 use Rattle.reason_check.specs.declared.Verdict.{Verdict}
 use Rattle.reason_check.specs.declared.Verdict.the-variants.{Holds, Fails}
-use Rattle.promises.specs.Calls.{reasonOf, filled}
 use Rattle.promises.specs.Engines.{ours}
 use Rattle.promises.specs.Reasoning.{ReasonOf, Reasoning}
 use Rattle.promises.proofs.Demand1.{reason-obeys, check-obeys}
-use Rattle.promises.proofs.Tests.{past-line-3, line-7-reason}
+use Rattle.promises.proofs.Tests.{past-line-3, supported-exactly, line-7-reason}
 
--- What a statement asked about has to be, where line 4 does not apply.
-module _ (o k x y sign : ℕ) (e : ((leb (o + k) x || (ltb y o || leb (o + k) y)) || ltb 1 sign) ≡ false) where
-  pair : (leb (o + k) x || (ltb y o || leb (o + k) y)) ≡ false
-  pair = or-none-left (leb (o + k) x || (ltb y o || leb (o + k) y)) (ltb 1 sign) e
-
+-- What a statement asked about is, where line 4 does not apply.
+module _ (o k x y sign : ℕ) (e : badStatement o (o + k) x y sign ≡ false) where
   pub node-of : x < o + k
-  node-of = leb-false (o + k) x (or-none-left (leb (o + k) x) (ltb y o || leb (o + k) y) pair)
+  node-of = good-statement o (o + k) x y sign .0 e .pair .node
 
   pub kind-of : Kind o k y
-  kind-of =
-      let r = or-none-right (leb (o + k) x) (ltb y o || leb (o + k) y) pair in
-      record { low = ltb-false y o (or-none-left (ltb y o) (leb (o + k) y) r); high = leb-false (o + k) y (or-none-right (ltb y o) (leb (o + k) y) r) }
+  kind-of = good-kind (good-statement o (o + k) x y sign .0 e .pair)
 
 module _ (o k : ℕ) (ws : List ℕ) (x y sign : ℕ) where
   abbrev s : Sign
@@ -51,13 +46,9 @@ module _ (o k : ℕ) (ws : List ℕ) (x y sign : ℕ) where
   -- A reason that is supported, as the theory has it.
   module _ (net : Net o k ws) (node : x < o + k) (kind : Kind o k y) (some : eqb (getD (distances (o + k) s ws y) x never) never ≡ false) where
     pub near : getD (distances (o + k) s ws y) x never < never
-    near = at (distances-small o k ws net y kind s x)
-      where
-        at : (getD (distances (o + k) s ws y) x never < o + k + (o + k)) ⊎ (getD (distances (o + k) s ws y) x never ≡ never) → getD (distances (o + k) s ws y) x never < never
-        at (inl l) = omega (arith, net .few)
-        at (inr e) = absurd (eqb-false (getD (distances (o + k) s ws y) x never) never some e)
+    near = reason-exactly o k ws net x node y kind s .0 (supported-exactly o k ws net x node y kind s .0 some)
 
-    reason-of : (size : ℕ) → length (reasonOf o k ws x y sign) ≡ size → (r : ReasonOf o k ws x y sign size) × (reasonOf o k ws x y sign ≡ written x (r .xs) (r .ys))
+    pub reason-of : (size : ℕ) → length (reasonOf ws x y sign (o + k)) ≡ size → (r : ReasonOf o k ws x y sign size) × (reasonOf ws x y sign (o + k) ≡ written x (r .xs) (r .ys))
     reason-of size e =
         let r = reason-shortest o k ws net x node y kind s near in
         (record { xs = r .xs; ys = r .ys; shortest = r .shortest; long = sym e ∙ ap (length {A = ℕ}) (r .list) }, r .list)
@@ -69,16 +60,16 @@ module _ (o k : ℕ) (ws : List ℕ) (x y sign : ℕ) where
       node : x < o + k
       kind : Kind o k y
       some : eqb (getD (distances (o + k) s ws y) x never) never ≡ false
-      size-is : length (reasonOf o k ws x y sign) ≡ size
+      size-is : length (reasonOf ws x y sign (o + k)) ≡ size
 
     found : (size : ℕ) → reasoned o k ws x y sign d l .answer ≡ reasonedAs.Done size
-        → Found size × (reasoned o k ws x y sign d l .list ≡ reasonOf o k ws x y sign ++ drop size l) × (size ≤ length l)
-        × (reasoned o k ws x y sign d l .scratch ≡ filled o k ws y sign d)
+        → Found size × (reasoned o k ws x y sign d l .list ≡ reasonOf ws x y sign (o + k) ++ drop size l) × (size ≤ length l)
+        × (reasoned o k ws x y sign d l .scratch ≡ filled ws y sign d (o + k))
     found size e =
         let u = reason-obeys o k ws x y sign d l .exactly 0 .0 (ap (λ (r : Reasoned). reasonedRow r .number) e) in
         let q = reason-obeys o k ws x y sign d l .leaves 0 u in
-        let z : length (reasonOf o k ws x y sign) ≡ size = ap (λ (r : Reasoned). reasonedRow r .first) (sym (ap (λ (r : Reason). r .answer) q) ∙ e) in
-        let room = ltb-false (length l) (length (reasonOf o k ws x y sign)) (u .1 .1 .1 .1 .1 .1 .0) in (
+        let z : length (reasonOf ws x y sign (o + k)) ≡ size = ap (λ (r : Reasoned). reasonedRow r .first) (sym (ap (λ (r : Reason). r .answer) q) ∙ e) in
+        let room = ltb-false (length l) (length (reasonOf ws x y sign (o + k))) (u .1 .1 .1 .1 .1 .1 .0) in (
           record {
             net = past-line-3 o k ws .0 (u .0, u .1 .0, u .1 .1 .0);
             node = node-of o k x y sign (u .1 .1 .1 .0);
@@ -86,7 +77,7 @@ module _ (o k : ℕ) (ws : List ℕ) (x y sign : ℕ) where
             some = u .1 .1 .1 .1 .1 .0;
             size-is = z;
           },
-          ap (λ (r : Reason). r .list) q ∙ ap (λ (n : ℕ). reasonOf o k ws x y sign ++ drop n l) z,
+          ap (λ (r : Reason). r .list) q ∙ ap (λ (n : ℕ). reasonOf ws x y sign (o + k) ++ drop n l) z,
           omega arith,
           ap (λ (r : Reason). r .scratch) q,
         )
@@ -102,7 +93,7 @@ module _ (o k : ℕ) (ws : List ℕ) (x y sign : ℕ) where
     record Scratched : Type 0 where
       net : Net o k ws
       kind : Kind o k y
-      filled-by : reasoned o k ws x y sign d l .scratch ≡ filled o k ws y sign d
+      filled-by : reasoned o k ws x y sign d l .scratch ≡ filled ws y sign d (o + k)
 
     scratched : ((r : Refusal) → reasoned o k ws x y sign d l .answer ≡ reasonedAs.Refused r → ⊥) → Scratched
     scratched h = at (reasoned o k ws x y sign d l .answer) refl
@@ -143,9 +134,9 @@ module _ (o k : ℕ) (ws : List ℕ) (x y sign : ℕ) where
     reason-short size e =
         let u = reason-obeys o k ws x y sign d l .exactly 8 .0 (ap (λ (r : Reasoned). reasonedRow r .number) e) in
         let q = reason-obeys o k ws x y sign d l .leaves 8 u in
-        let z : length (reasonOf o k ws x y sign) ≡ size = ap (λ (r : Reasoned). reasonedRow r .first) (sym (ap (λ (r : Reason). r .answer) q) ∙ e) in
+        let z : length (reasonOf ws x y sign (o + k)) ≡ size = ap (λ (r : Reasoned). reasonedRow r .first) (sym (ap (λ (r : Reason). r .answer) q) ∙ e) in
         let net = past-line-3 o k ws .0 (u .0, u .1 .0, u .1 .1 .0) in
-        let less : length l < length (reasonOf o k ws x y sign) = ltb-true (length l) (length (reasonOf o k ws x y sign)) (u .1 .1 .1 .1 .1 .1) in
+        let less : length l < length (reasonOf ws x y sign (o + k)) = ltb-true (length l) (length (reasonOf ws x y sign (o + k))) (u .1 .1 .1 .1 .1 .1) in
         (reason-of net (node-of o k x y sign (u .1 .1 .1 .0)) (kind-of o k x y sign (u .1 .1 .1 .0)) (u .1 .1 .1 .1 .1 .0) size z .0, omega arith)
 
   module _ (l : List ℕ) where

@@ -2,7 +2,7 @@
 -- the clash test, the reason and the reason check do the same.
 use Prim.Native.Nat.{ℕ, zero, suc, _+_, _*_, _≤_, _<_}
 use mathlib.Core.Path.{_≡_, refl, sym, ap, _∙_}
-use mathlib.Core.Bool.{Bool, true, false, cond}
+use mathlib.Core.Bool.{Bool, true, false}
 use mathlib.Core.List.{List, [], _∷_, _++_}
 use mathlib.Core.Logic.{inl, inr}
 use native.Mathlib.Omega.{arith}
@@ -15,20 +15,27 @@ use Rattle.theory.specs.Nets.{Kind, Links, Net}
 use Rattle.theory.specs.Scans.{Scan}
 use Rattle.theory.specs.Completion.{fullMarks, rows, complete}
 use Rattle.theory.specs.Reasons.{Moves, up, over, down, goal, never}
-use Rattle.theory.specs.Searches.{distances, reasonStates, reasonList}
+use Rattle.theory.specs.Searches.{distances, reasonStates}
 use Rattle.theory.specs.Checks.{listed, allSteps, passes}
 use Rattle.theory.proofs.Order.{Among}
 use Rattle.theory.proofs.Best.{best-unique}
 use Rattle.theory.proofs.Distances.{distance-into, distance-unique, distances-length, distances-right}
 use Rattle.theory.proofs.Reason.{best-into, states-best}
 use Rattle.theory.proofs.Steps.{listed-exactly}
+use Rattle.net.specs.Lines.{call}
 use Rattle.net.specs.Table.{badStatement}
+use Rattle.net.specs.declared.Refusal.{Refusal}
 use Rattle.net.proofs.NetCheck.{net-is-checked}
-use Rattle.clash.specs.Table.{firstClash, clashNet, clashChecked, clashedBy}
-use Rattle.completion.specs.Table.{completionNet, completionChecked, completedBy}
-use Rattle.reason.specs.Table.{Reason, reason, write, reasonSearched, reasonNet, reasonChecked, reasoned}
-use Rattle.reason.specs.declared.Reasoned.the-variants.{Unsupported}
-use Rattle.reason_check.specs.Table.{verdictNet, verdictChecked, verdict}
+use Rattle.net.proofs.OnNet.{gone-on}
+use Rattle.clash.specs.Table.{Clash, clash, clashNodes, firstClash, clashSearch, clashLines, clashDone, clashedBy}
+use Rattle.clash.specs.declared.Clashed.{Clashed}
+use Rattle.clash.specs.declared.Clashed.the-variants as clashed
+use Rattle.completion.specs.Table.{Completion, completion, completionLines, completionDone, completedBy}
+use Rattle.completion.specs.declared.Completed.the-variants as completed
+use Rattle.reason.specs.Table.{Reason, reason, filled, reasonOf, foundLines, foundDone, reasonLines, reasonDone, reasoned}
+use Rattle.reason.specs.declared.Reasoned.the-variants as reasonedAs
+use Rattle.reason_check.specs.Table.{checkLines, checkDone, verdict}
+use Rattle.reason_check.specs.declared.Verdict.the-variants as verdictAs
 use Rattle.promises.proofs.Orders.{after-tests, forward-same}
 use Rattle.promises.proofs.Reasoning.{node-of, kind-of, near}
 
@@ -60,8 +67,11 @@ module _ (o k : ℕ) (ws vs : List ℕ) (n : Net o k ws) (p : Net o k vs) (to : 
 
   -- The completion.
   pub completion-order : (m l : List ℕ) → completedBy o k ws m l ≡ completedBy o k vs m l
-  unfolding completionChecked completionNet
-  completion-order m l = rw (net-is-checked o k ws n, net-is-checked o k vs p, complete-same)
+  completion-order m l =
+      let refused : Refusal → Completion = λ r. completion (completed.Refused r) m l in
+      sym (gone-on refused o k ws (completionLines (complete o k ws) m l) (completionDone (complete o k ws) m l) (net-is-checked o k ws n) refl)
+      ∙ ap (λ (all : List ℕ). call (completionLines all m l (o + k)) (completionDone all m l (o + k))) complete-same
+      ∙ gone-on refused o k vs (completionLines (complete o k vs) m l) (completionDone (complete o k vs) m l) (net-is-checked o k vs p) refl
 
   -- So is the first clash.
   first-same : (x j : ℕ) → x + j ≤ o + k → firstClash o k ws x j ≡ firstClash o k vs x j
@@ -71,8 +81,11 @@ module _ (o k : ℕ) (ws vs : List ℕ) (n : Net o k ws) (p : Net o k vs) (to : 
 
   -- The clash test.
   pub clash-order : (m : List ℕ) → clashedBy o k ws m ≡ clashedBy o k vs m
-  unfolding clashChecked clashNet
-  clash-order m = rw (net-is-checked o k ws n, net-is-checked o k vs p, first-same 0 o (omega arith))
+  clash-order m =
+      let refused : Refusal → Clash = λ r. clash (clashed.Refused r) m in
+      sym (gone-on refused o k ws (clashLines (clashSearch o k ws) m) (clashDone (clashSearch o k ws) m) (net-is-checked o k ws n) refl)
+      ∙ ap (λ (found : Clashed). call (clashLines found m (o + k)) (clashDone found m (o + k))) (first-same 0 (clashNodes o k) (omega arith))
+      ∙ gone-on refused o k vs (clashLines (clashSearch o k vs) m) (clashDone (clashSearch o k vs) m) (net-is-checked o k vs p) refl
 
   module _ (y : ℕ) (kind : Kind o k y) (s : Sign) where
     -- The scratch is the same: each place has one right value.
@@ -92,17 +105,17 @@ module _ (o k : ℕ) (ws vs : List ℕ) (n : Net o k ws) (p : Net o k vs) (to : 
         (states-best o k ws n x node y kind s h))
         (states-best o k vs p x node y kind s (rw distances-same at h))
 
-  -- What a search leaves that fills the scratch with t, where q says whether there is no way.
-  abbrev ends : ℕ → ℕ → Sign → List ℕ → Bool → List ℕ → List ℕ → Reason
-  ends x y s l q us t = cond q (reason Unsupported t l) (write (reasonList (o + k) x (reasonStates (o + k) s us x y)) t l)
+  -- Lines 7, 8 and 0 over the distances t, where a is the reason.
+  abbrev found : ℕ → List ℕ → List ℕ → List ℕ → List ℕ → Reason
+  found x t a past l = call (foundLines x t a past l) (foundDone a past l)
 
   -- A search over a good statement leaves the same.
   searched-same : (x y sign : ℕ) (d l : List ℕ) → badStatement o (o + k) x y sign ≡ false
-      → reasonSearched (o + k) (signAt sign) ws x y (distances (o + k) (signAt sign) ws y ++ drop ((o + k) + (o + k)) d) l
-      ≡ reasonSearched (o + k) (signAt sign) vs x y (distances (o + k) (signAt sign) vs y ++ drop ((o + k) + (o + k)) d) l
+      → found x (distances (o + k) (signAt sign) ws y) (reasonOf ws x y sign (o + k)) (filled ws y sign d (o + k)) l
+      ≡ found x (distances (o + k) (signAt sign) vs y) (reasonOf vs x y sign (o + k)) (filled vs y sign d (o + k)) l
   searched-same x y sign d l e =
-      at (eqb (getD (distances (o + k) (signAt sign) ws y) x never) never) refl _
-      ∙ ap (λ (t : List ℕ). ends x y (signAt sign) l (eqb (getD t x never) never) vs (t ++ drop ((o + k) + (o + k)) d)) (distances-same y kind (signAt sign))
+      at (eqb (getD (distances (o + k) (signAt sign) ws y) x never) never) refl
+      ∙ ap (λ (t : List ℕ). found x t (reasonOf vs x y sign (o + k)) (t ++ drop ((o + k) + (o + k)) d) l) (distances-same y kind (signAt sign))
     where
       node : x < o + k
       node = node-of o k x y sign e
@@ -110,18 +123,19 @@ module _ (o k : ℕ) (ws vs : List ℕ) (n : Net o k ws) (p : Net o k vs) (to : 
       kind : Kind o k y
       kind = kind-of o k x y sign e
 
-      at : (q : Bool) → eqb (getD (distances (o + k) (signAt sign) ws y) x never) never ≡ q → (t : List ℕ)
-          → ends x y (signAt sign) l q ws t ≡ ends x y (signAt sign) l q vs t
-      at true f t = refl
-      at false f t =
-          ap (λ (r : List ℕ). write (reasonList (o + k) x r) t l) (states-same y kind (signAt sign) x node (near o k ws x y sign n node kind f))
+      at : (q : Bool) → eqb (getD (distances (o + k) (signAt sign) ws y) x never) never ≡ q
+          → found x (distances (o + k) (signAt sign) ws y) (reasonOf ws x y sign (o + k)) (filled ws y sign d (o + k)) l
+          ≡ found x (distances (o + k) (signAt sign) ws y) (reasonOf vs x y sign (o + k)) (filled ws y sign d (o + k)) l
+      at true f = rw f
+      at false f = rw (states-same y kind (signAt sign) x node (near o k ws x y sign n node kind f))
 
   -- The reason.
   pub reason-order : (x y sign : ℕ) (d l : List ℕ) → reasoned o k ws x y sign d l ≡ reasoned o k vs x y sign d l
-  unfolding reasonChecked reasonNet
   reason-order x y sign d l =
-      rw (net-is-checked o k ws n, net-is-checked o k vs p)
-      (after-tests (badStatement o (o + k) x y sign) (ltb (length d) ((o + k) + (o + k))) _ _ (searched-same x y sign d l))
+      let refused : Refusal → Reason = λ r. reason (reasonedAs.Refused r) d l in
+      sym (gone-on refused o k ws (reasonLines o ws x y sign d l) (reasonDone ws x y sign d l) (net-is-checked o k ws n) refl)
+      ∙ after-tests (badStatement o (o + k) x y sign) (ltb (length d) ((o + k) + (o + k))) _ _ (searched-same x y sign d l)
+      ∙ gone-on refused o k vs (reasonLines o vs x y sign d l) (reasonDone vs x y sign d l) (net-is-checked o k vs p) refl
 
   -- The tests of the reason check are the same: of one link, of all steps, of the list.
   listed-same : (x y : ℕ) (s : Sign) → listed x y (number s) ws ≡ listed x y (number s) vs
@@ -144,5 +158,7 @@ module _ (o k : ℕ) (ws vs : List ℕ) (n : Net o k ws) (p : Net o k vs) (to : 
 
   -- The reason check.
   pub check-order : (x y sign : ℕ) (l : List ℕ) → verdict o k ws x y sign l ≡ verdict o k vs x y sign l
-  unfolding verdictChecked verdictNet
-  check-order x y sign l = rw (net-is-checked o k ws n, net-is-checked o k vs p, passes-same x y (signAt sign) l)
+  check-order x y sign l =
+      sym (gone-on verdictAs.Refused o k ws (checkLines o x y sign) (λ _. checkDone o k ws x y sign l) (net-is-checked o k ws n) refl)
+      ∙ rw (passes-same x y (signAt sign) l)
+      (gone-on verdictAs.Refused o k vs (checkLines o x y sign) (λ _. checkDone o k vs x y sign l) (net-is-checked o k vs p) refl)

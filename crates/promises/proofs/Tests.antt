@@ -1,16 +1,16 @@
 -- Demand 1, in plain terms: what the test of each line of the number table says of the call.
 use Prim.Native.Nat.{ℕ, suc, _+_, _*_, _≤_, _<_}
-use mathlib.Core.Path.{_≡_, refl, sym, _∙_}
-use mathlib.Core.Bool.{Bool, true, false, not, _||_}
+use mathlib.Core.Path.{_≡_, sym, _∙_}
+use mathlib.Core.Bool.{false, not, _||_}
 use mathlib.Core.List.{List}
-use mathlib.Core.Logic.{_↔_, _⊎_, inl, inr}
+use mathlib.Core.Logic.{_↔_, ⊎-elim}
 use native.Mathlib.Omega.{arith}
 use native.Mathlib.Decide.{decLt}
 use native.Mathlib.Nat.{le-refl}
 use lib.Dec.{eqb, ltb, leb}
 use lib.ListN.{length, getD}
-use borrow.Author.Tests.{le-ltb, not-true}
-use Rattle.theory_laws.proofs.Booleans.{clash}
+use borrow.Author.Tests.{ltb-false, le-ltb, leb-false, lt-leb, eqb-false, ne-eqb, not-false}
+use Rattle.theory_laws.proofs.Booleans.{clash, or-none-left, or-none-right}
 use Rattle.theory.specs.Words.{Sign, nodeLimit, wordLimit}
 use Rattle.theory.specs.Nets.{Kind, Links, Net}
 use Rattle.theory.specs.Support.{Supported}
@@ -18,7 +18,7 @@ use Rattle.theory.specs.Scans.{rounds, Count}
 use Rattle.theory.specs.Reasons.{never}
 use Rattle.theory.specs.Searches.{distances}
 use Rattle.theory.specs.declared.Command.{Command}
-use Rattle.theory_laws.proofs.Deciding.{Decides, decides-below, decides-most, decides-equal, decides-either, decides-same}
+use Rattle.theory_laws.proofs.Deciding.{Decides, decides-below, decides-not, decides-same}
 use Rattle.theory.proofs.Budgets.{ends-within, last-round, count-unique}
 use Rattle.theory.proofs.Distances.{distances-small}
 use Rattle.theory.proofs.Reason.{reason-exactly}
@@ -26,8 +26,10 @@ use Rattle.theory.proofs.Inside.{at-member}
 use Rattle.net.specs.Legal.{legal, legalPrefix}
 use Rattle.net.proofs.Legality.{legal-means, prefix-legal, prefix-illegal, prefix-is}
 use Rattle.net.proofs.NetCheck.{FirstIllegal, check-is-net}
-use Rattle.net.specs.Table.{checkNet}
-use Rattle.promises.specs.Calls.{noClash}
+use Rattle.net.specs.Table.{checkNet, badPair, badStatement}
+use Rattle.net.specs.Good.{GoodPair, GoodStatement}
+use Rattle.net.proofs.Good.{good-pair, good-statement}
+use Rattle.clash.specs.Table.{clashSearch, nowhere}
 use Rattle.promises.specs.Clashing.{ClashAt}
 use Rattle.promises.proofs.Clashes.{no-clash-exactly}
 
@@ -67,47 +69,29 @@ module _ (o k : ℕ) (ws : List ℕ) where
           (le-ltb nodeLimit (o + k) (n .few), le-ltb wordLimit (length ws) (n .short), le-ltb (legalPrefix o (o + k) ws) (length ws) (omega (arith, all)))
 
   -- Line 4 of the forward scan: x is no node.
+  pub node-exactly : (x : ℕ) → (leb (o + k) x ≡ false) ↔ (x < o + k)
+  node-exactly x = (leb-false (o + k) x, lt-leb (o + k) x)
+
   pub line-4-start : (x : ℕ) → Decides (leb (o + k) x) (x < o + k → ⊥)
-  line-4-start x = decides-same _ (decides-most (o + k) x) (λ h l. omega arith) (λ h. far h)
-    where
-      far : (x < o + k → ⊥) → o + k ≤ x
-      far h = at (decLt x (o + k))
-        where
-          at : Dec (x < o + k) → o + k ≤ x
-          at (yes l) = absurd (h l)
-          at (no l) = omega arith
-
-  no-kind : (y : ℕ) → (Kind o k y → ⊥) → (y < o) ⊎ (o + k ≤ y)
-  no-kind y h = at (decLt y o) (decLt y (o + k))
-    where
-      at : Dec (y < o) → Dec (y < o + k) → (y < o) ⊎ (o + k ≤ y)
-      at (yes l) d = inl l
-      at (no l) (yes m) = absurd (h (record { low = omega arith; high = m }))
-      at (no l) (no m) = inr (omega arith)
-
-  kind-not : (y : ℕ) → (y < o) ⊎ (o + k ≤ y) → Kind o k y → ⊥
-  kind-not y (inl l) h = omega (arith, h .low)
-  kind-not y (inr l) h = omega (arith, h .high)
-
-  swap : {P Q : Type 0} → P ⊎ Q → Q ⊎ P
-  swap (inl p) = inr p
-  swap (inr q) = inl q
+  line-4-start x = decides-not _ (node-exactly x)
 
   -- Line 4 of the kind scan: y is no kind.
+  pub kind-exactly : (y : ℕ) → ((leb (o + k) y || ltb y o) ≡ false) ↔ Kind o k y
+  kind-exactly y = (
+    (λ e. record { low = ltb-false y o (or-none-right (leb (o + k) y) (ltb y o) e); high = leb-false (o + k) y (or-none-left (leb (o + k) y) (ltb y o) e) }),
+    λ h. rw (lt-leb (o + k) y (h .high), le-ltb y o (h .low)),
+  )
+
   pub line-4-kind : (y : ℕ) → Decides (leb (o + k) y || ltb y o) (Kind o k y → ⊥)
-  line-4-kind y =
-      decides-same _ (decides-either (leb (o + k) y) (ltb y o) (decides-most (o + k) y) (decides-below y o)) (λ h. kind-not y (swap h)) (λ h. swap (no-kind y h))
+  line-4-kind y = decides-not _ (kind-exactly y)
 
   -- Line 4 of a question: x is no node, or y is no kind.
-  pub line-4-pair : (x y : ℕ) → Decides (leb (o + k) x || (ltb y o || leb (o + k) y)) ((x < o + k → ⊥) ⊎ (Kind o k y → ⊥))
-  line-4-pair x y =
-      decides-either (leb (o + k) x) _ (line-4-start x)
-      (decides-same _ (decides-either (ltb y o) (leb (o + k) y) (decides-below y o) (decides-most (o + k) y)) (kind-not y) (no-kind y))
+  pub line-4-pair : (x y : ℕ) → Decides (badPair o (o + k) x y) (GoodPair o (o + k) x y → ⊥)
+  line-4-pair x y = decides-not _ (good-pair o (o + k) x y)
 
   -- Line 4 of a reason and of a reason check: the same, or the sign is above 1.
-  pub line-4-statement : (x y sign : ℕ)
-      → Decides ((leb (o + k) x || (ltb y o || leb (o + k) y)) || ltb 1 sign) (((x < o + k → ⊥) ⊎ (Kind o k y → ⊥)) ⊎ (1 < sign))
-  line-4-statement x y sign = decides-either (leb (o + k) x || (ltb y o || leb (o + k) y)) _ (line-4-pair x y) (decides-below 1 sign)
+  pub line-4-statement : (x y sign : ℕ) → Decides (badStatement o (o + k) x y sign) (GoodStatement o (o + k) x y sign → ⊥)
+  line-4-statement x y sign = decides-not _ (good-statement o (o + k) x y sign)
 
   -- Line 5: the marks are fewer than the nodes, the scratch has less than twice as many places.
   pub line-5 : (m : List ℕ) → Decides (ltb (length m) (o + k)) (length m < o + k)
@@ -116,45 +100,47 @@ module _ (o k : ℕ) (ws : List ℕ) where
   pub line-5-scratch : (d : List ℕ) → Decides (ltb (length d) ((o + k) + (o + k))) (length d < 2 * (o + k))
   line-5-scratch d = decides-same _ (decides-below (length d) ((o + k) + (o + k))) (λ h. omega arith) (λ h. omega arith)
 
--- Line 6: the budget is below the count.
-pub line-6 : (cs : List Command) (ws m : List ℕ) (budget c : ℕ) → Count cs ws m c → Decides (not (rounds cs ws 0 budget m .done)) (budget < c)
-line-6 cs ws m budget c n = (there, back)
-  where
-    there : not (rounds cs ws 0 budget m .done) ≡ true → budget < c
-    there e = at (decLt budget c)
-      where
-        at : Dec (budget < c) → budget < c
-        at (yes l) = l
-        at (no l) = clash (sym (not-true (rounds cs ws 0 budget m .done) e) ∙ ends-within cs ws m c budget n (omega arith))
+module _ (cs : List Command) (ws m : List ℕ) (budget c : ℕ) (count : Count cs ws m c) where
+  -- A scan ends exactly if its count is within the budget.
+  pub within-exactly : (not (rounds cs ws 0 budget m .done) ≡ false) ↔ (c ≤ budget)
+  within-exactly = (there, λ l. rw (ends-within cs ws m c budget count l))
+    where
+      there : not (rounds cs ws 0 budget m .done) ≡ false → c ≤ budget
+      there e =
+          let t = last-round cs ws m budget (not-false (rounds cs ws 0 budget m .done) e) in
+          omega (arith, t .within, count-unique cs ws m c (suc (t .at)) count (t .counted))
 
-    back : budget < c → not (rounds cs ws 0 budget m .done) ≡ true
-    back l = at (rounds cs ws 0 budget m .done) refl
-      where
-        at : (d : Bool) → rounds cs ws 0 budget m .done ≡ d → not d ≡ true
-        at true e = let t = last-round cs ws m budget e in absurd (omega (arith, t .within, count-unique cs ws m c (suc (t .at)) n (t .counted)))
-        at false e = refl
+  -- Line 6: the budget is below the count.
+  pub line-6 : Decides (not (rounds cs ws 0 budget m .done)) (budget < c)
+  line-6 = decides-same _ (decides-not _ within-exactly) (λ h. below h) (λ l h. omega arith)
+    where
+      below : (c ≤ budget → ⊥) → budget < c
+      below h = at (decLt budget c)
+        where
+          at : Dec (budget < c) → budget < c
+          at (yes l) = l
+          at (no l) = absurd (h (omega arith))
 
 module _ (o k : ℕ) (ws : List ℕ) (net : Net o k ws) where
   -- Line 7 of a reason: the statement is not supported.
-  pub line-7-reason : (x : ℕ) → x < o + k → (y : ℕ) → Kind o k y → (s : Sign)
-      → Decides (eqb (getD (distances (o + k) s ws y) x never) never) (Supported o k (Links ws) x y s → ⊥)
-  line-7-reason x node y kind s = decides-same _ (decides-equal d never) (λ e p. omega (arith, r .0 p)) back
-    where
-      d : ℕ
-      d = getD (distances (o + k) s ws y) x never
+  module _ (x : ℕ) (node : x < o + k) (y : ℕ) (kind : Kind o k y) (s : Sign) where
+    abbrev away : ℕ
+    away = getD (distances (o + k) s ws y) x never
 
-      r : Supported o k (Links ws) x y s ↔ (getD (distances (o + k) s ws y) x never < never)
-      r = reason-exactly o k ws net x node y kind s
+    pub supported-exactly : (eqb away never ≡ false) ↔ Supported o k (Links ws) x y s
+    supported-exactly = (there, λ p. ne-eqb away never (λ e. omega (arith, r .0 p)))
+      where
+        r : Supported o k (Links ws) x y s ↔ (away < never)
+        r = reason-exactly o k ws net x node y kind s
 
-      back : (Supported o k (Links ws) x y s → ⊥) → d ≡ never
-      back h = at (distances-small o k ws net y kind s x)
-        where
-          at : (d < o + k + (o + k)) ⊎ (d ≡ never) → d ≡ never
-          at (inl l) = absurd (h (r .1 (omega (arith, net .few))))
-          at (inr e) = e
+        there : eqb away never ≡ false → Supported o k (Links ws) x y s
+        there e = ⊎-elim (λ l. r .1 (omega (arith, net .few))) (λ f. absurd (eqb-false away never e f)) (distances-small o k ws net y kind s x)
+
+    pub line-7-reason : Decides (eqb away never) (Supported o k (Links ws) x y s → ⊥)
+    line-7-reason = decides-not _ supported-exactly
 
   -- Line 7 of the clash test: no object clashes.
-  pub line-7-clash : Decides (noClash o k ws) ((x y : ℕ) → ClashAt o k ws x y → ⊥)
+  pub line-7-clash : Decides (nowhere (clashSearch o k ws)) ((x y : ℕ) → ClashAt o k ws x y → ⊥)
   line-7-clash = no-clash-exactly o k ws net
 
 -- Line 8: the list is shorter than the result.

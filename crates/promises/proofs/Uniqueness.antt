@@ -86,7 +86,7 @@ net-unique o k ws r q e f = both-are r q e f
 pub contents-unique : (file : List ℕ) (r q : Contents) → r ≡ contentsOf file → q ≡ contentsOf file → r ≡ q
 contents-unique file r q e f = both-are r q e f
 
-pub bodies-unique : (file : List ℕ) (b c : List (List ℕ)) → b ≡ bodiesOf file (contentsOf file) → c ≡ bodiesOf file (contentsOf file) → b ≡ c
+pub bodies-unique : (file : List ℕ) (b c : List (List ℕ)) → b ≡ bodiesOf file → c ≡ bodiesOf file → b ≡ c
 bodies-unique file b c e f = both-are b c e f
 
 -- The text of `ask`: the number of bytes, and the room it was lent.

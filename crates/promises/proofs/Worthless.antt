@@ -1,13 +1,12 @@
--- Each of the four worthless engines breaks a demand; the input at which it does stands in its proof.
+-- Each of the four worthless engines, and the one that looks right, breaks a demand; the input at which it does stands in its proof.
 use Prim.Native.Nat.{ℕ, _+_, _≤_}
 use mathlib.Core.Path.{_≡_, refl, sym, ap, subst, _∙_}
 use mathlib.Core.Bool.{false}
 use mathlib.Core.List.{List, [], _∷_, _++_, List·Memᴰ}
-use mathlib.Core.Logic.{_↔_}
+use mathlib.Core.Logic.{_↔_, inl}
 use native.Mathlib.Omega.{arith}
-use native.Mathlib.Nat.{le-refl}
-use lib.Dec.{ltb, eqb}
-use lib.ListN.{length, getD, length-replicate}
+use lib.Dec.{eqb}
+use lib.ListN.{length, getD}
 use borrow.Author.Tests.{le-ltb}
 use Rattle.theory.specs.NetM.{M}
 use Rattle.theory_laws.proofs.Booleans.{clash}
@@ -15,15 +14,14 @@ use Rattle.theory.specs.Words.{isnt, wordLimit}
 use Rattle.theory.specs.Nets.{Net}
 use Rattle.theory.specs.Support.{r1}
 use Rattle.theory.specs.Marks.{F, has, mark, link, links, command, round, forward, forwardStart, blank}
-use Rattle.theory.specs.Scans.{after, same, rounds}
+use Rattle.theory.specs.Scans.{after, same, rounds, Count}
 use Rattle.theory.proofs.Budgets.{count-unique}
 use Rattle.theory.proofs.Loss.{nought-is-not-four}
 use Rattle.net.specs.Legal.{legalPrefix}
-use Rattle.net.specs.Table.{checkNet, refusalRow}
+use Rattle.net.specs.Table.{checkNet}
 use Rattle.net.specs.declared.Refusal.{Refusal}
-use Rattle.net.specs.declared.Refusal.the-variants.{TooManyNodes, TooManyWords, IllegalWord, BadQuestion, ShortBuffer}
-use Rattle.scan.specs.Table.{Outcome, forwardScanned}
-use Rattle.scan_start.specs.Starts.{cleared}
+use Rattle.net.proofs.Rows.{refusal-not}
+use Rattle.scan.specs.Table.{Outcome, outcome, forwardScanned}
 use Rattle.scan.specs.declared.Scanned.the-variants as scanned
 use Rattle.question.specs.Table.{askedRow}
 use Rattle.question.specs.declared.Answer.the-variants.{None}
@@ -35,20 +33,12 @@ use Rattle.promises.specs.Engines.{Engine}
 use Rattle.promises.specs.Demand1.{Demand1}
 use Rattle.promises.specs.Demand2.{Demand2}
 use Rattle.promises.specs.Demand3.{CompletesTo, Joined, Demand3}
-use Rattle.promises.specs.Worthless.{refuser, denier, copier, inventor}
+use Rattle.promises.specs.Worthless.{refuser, denier, copier, inventor, hastyLinks, hastyRound, hastyRounds, hasty}
 use Rattle.promises.proofs.Tests.{past-line-3}
 use Rattle.promises.proofs.Demand2.{demand-2}
-use Rattle.promises.proofs.Demand3.{filled-same}
+use Rattle.promises.proofs.Demand3.{completes-once}
 
 -- ── one that refuses all calls ──
-
--- No refusal has number 0.
-refusal-some : (r : Refusal) → eqb (refusalRow r .number) 0 ≡ false
-refusal-some TooManyNodes = refl
-refusal-some TooManyWords = refl
-refusal-some (IllegalWord i) = refl
-refusal-some BadQuestion = refl
-refusal-some ShortBuffer = refl
 
 -- One kind, no words, question (0, 0), one byte of marks: no line applies.
 nothing-wrong : Due 0 (questionTable 0 1 [] 0 0 (blank 1))
@@ -59,7 +49,7 @@ nothing-wrong = (refl, (refl, (refl, (refl, (refl, refl)))))
 pub refusing-breaks : (e : Engine) (r : Refusal) → e .question 0 1 [] 0 0 (blank 1) .answer ≡ asked.Refused r → Demand1 e → ⊥
 refusing-breaks e r h d =
     clash
-    (sym (refusal-some r)
+    (sym (refusal-not r 0 (inl refl))
     ∙ ap (λ (n : ℕ). eqb n 0) (sym (ap (λ (a : Asked). askedRow a .number) h) ∙ d .question 0 1 [] 0 0 (blank 1) .exactly 0 .1 nothing-wrong))
 
 -- So the engine that refuses all calls does, whatever refusal it gives.
@@ -88,13 +78,9 @@ copies : (o k : ℕ) (ws : List ℕ) → Net o k ws → CompletesTo copier o k w
 copies o k ws n m l h i = let t = past-line-3 o k ws .1 n in rw (t .0, t .1, t .2, le-ltb (length m) (o + k) h, le-ltb (length l) (length ws) i)
 
 copies-only : (o k : ℕ) (ws out : List ℕ) → Net o k ws → CompletesTo copier o k ws out → ws ≡ out
-copies-only o k ws out n c =
-    let t = past-line-3 o k ws .1 n in
-    let room : length (blank (o + k)) ≡ o + k = length-replicate {A = ℕ} (o + k) 0 in
-    filled-same ws out (cleared (o + k) (blank (o + k))) (ltb (length out) (length ws)) refl
-    (rw (t .0, t .1, t .2, le-ltb (length (blank (o + k))) (o + k) (omega arith)) at (c (blank (o + k)) out (omega arith) (le-refl (length out))))
+copies-only o k ws out n = completes-once copier o k ws ws out (copies o k ws n)
 
--- So it keeps two laws of demand 3 word for word: again, and part.
+-- So it keeps three laws of demand 3 word for word: again, and part on either side.
 pub copier-again : (o k : ℕ) (ws out : List ℕ) → Net o k ws → CompletesTo copier o k ws out → CompletesTo copier o k out out
 copier-again o k ws out n c = subst (λ (l : List ℕ). CompletesTo copier o k l l) (copies-only o k ws out n c) (copies o k ws n)
 
@@ -104,32 +90,56 @@ copier-part o k ws vs out all j c h =
     let e = copies-only o k ws out (j .left) c in
     (subst (λ (l : List ℕ). CompletesTo copier o k (l ++ vs) all) e, subst (λ (l : List ℕ). CompletesTo copier o k (l ++ vs) all) (sym e))
 
+pub copier-part-right : (o k : ℕ) (ws vs out all : List ℕ) → Joined o k ws vs → CompletesTo copier o k vs out → length (ws ++ out) ≤ wordLimit
+    → CompletesTo copier o k (ws ++ vs) all ↔ CompletesTo copier o k (ws ++ out) all
+copier-part-right o k ws vs out all j c h =
+    let e = copies-only o k vs out (j .right) c in
+    (subst (λ (l : List ℕ). CompletesTo copier o k (ws ++ l) all) e, subst (λ (l : List ℕ). CompletesTo copier o k (ws ++ l) all) (sym e))
+
 -- One kind and no words: 0 → 0 is supported, and its word is 0.
 one-kind : Net 0 1 []
 one-kind = record { few = omega arith; short = omega arith; legal = λ w m. elim m [ ] }
 
--- But it lists nothing.
+-- But such an engine lists nothing: one that completes that net to itself breaks demand 3.
+pub copying-breaks : (e : Engine) → CompletesTo e 0 1 [] [] → Demand3 e → ⊥
+copying-breaks e c d =
+    let (out, t, all) = d .lists 0 1 [] one-kind in
+    elim (subst (List·Memᴰ 0) (completes-once e 0 1 [] out [] t c) (all .exact 0 .1 (r1 (record { low = omega arith; high = omega arith })))) [ ]
+
+-- So the engine that returns every net as its own completion does.
 pub copier-breaks : Demand3 copier → ⊥
-copier-breaks d =
-    let (out, c, all) = d .lists 0 1 [] one-kind in
-    let e : [] ≡ out = copies-only 0 1 [] out one-kind c in
-    elim (subst (List·Memᴰ 0) (sym e) (all .exact 0 .1 (r1 (record { low = omega arith; high = omega arith })))) [ ]
+copier-breaks = copying-breaks copier (copies 0 1 [] one-kind)
 
 -- ── one that runs the first round and reports an invented count ──
 
--- Net M, forward from 0, budget 12: the first round leaves no F at 4.
+-- Net M, forward from 0: the first round leaves no F at 4.
+no-F-yet : has F (getD (round forward M (forwardStart 6 0)) 4 0) ≡ false
+unfolding round command links link mark
+no-F-yet = refl
+
+-- But 0 ↛ 4 is supported: an engine that leaves the marks of the first round there breaks demand 2, whatever count it reports.
+pub one-round-breaks : (e : Engine) (count : ℕ) → e .forwardScan 2 4 M 0 12 (blank 6) ≡ outcome (scanned.Done count) (round forward M (forwardStart 6 0)) → Demand2 e → ⊥
+one-round-breaks e count h d =
+    clash
+    (sym no-F-yet
+    ∙ sym (ap (λ (r : Outcome). has F (getD (r .marks) 4 0)) h)
+    ∙ d .forwardScan 2 4 M 0 12 (blank 6) count (ap (λ (r : Outcome). r .answer) h) 4 (record { low = omega arith; high = omega arith }) isnt .1 nought-is-not-four)
+
+-- The engine that invents counts leaves these marks.
 stops-early : (invented : ℕ → ℕ → List ℕ → ℕ → ℕ → List ℕ → ℕ)
-    → inventor invented .forwardScan 2 4 M 0 12 (blank 6) ≡ record { answer = scanned.Done (invented 2 4 M 0 12 (blank 6)); marks = 1 ∷ 0 ∷ 1 ∷ 2 ∷ 0 ∷ 0 ∷ [] }
+    → inventor invented .forwardScan 2 4 M 0 12 (blank 6) ≡ outcome (scanned.Done (invented 2 4 M 0 12 (blank 6))) (round forward M (forwardStart 6 0))
 unfolding legalPrefix rounds same round command links link mark
 stops-early invented = refl
 
--- But 0 ↛ 4 is supported, whatever count is invented.
+-- So the engine that does so in every scan breaks it, whatever it invents.
 pub inventor-breaks : (invented : ℕ → ℕ → List ℕ → ℕ → ℕ → List ℕ → ℕ) → Demand2 (inventor invented) → ⊥
-inventor-breaks invented d =
-    clash
-    (sym (ap (λ (r : Outcome). has F (getD (r .marks) 4 0)) (stops-early invented))
-    ∙ d .forwardScan 2 4 M 0 12 (blank 6) (invented 2 4 M 0 12 (blank 6)) (ap (λ (r : Outcome). r .answer) (stops-early invented)) 4 (record { low = omega arith; high = omega arith }) isnt .1
-    nought-is-not-four)
+inventor-breaks invented = one-round-breaks (inventor invented) (invented 2 4 M 0 12 (blank 6)) (stops-early invented)
+
+-- An engine that reports another count than the machine's breaks demand 2 by the rounds alone, whatever its marks are.
+pub miscounting-breaks : (e : Engine) (o k : ℕ) (ws : List ℕ) (x budget : ℕ) (m : List ℕ) (count c : ℕ) → e .forwardScan o k ws x budget m .answer ≡ scanned.Done count
+    → Count forward ws (forwardStart (o + k) x) c → (count ≡ c → ⊥) → Demand2 e → ⊥
+miscounting-breaks e o k ws x budget m count c h n differ d =
+    differ (count-unique forward ws (forwardStart (o + k) x) count c (d .forwardRounds o k ws x budget m count h .0) n)
 
 -- One kind, forward from 0: without words the count is 1, and with word 1 it is 2; in both the first round sets all there is to set.
 count-1 : forwardScanned 0 1 [] 0 2 (blank 1) .answer ≡ scanned.Done 1
@@ -140,6 +150,14 @@ count-2 : forwardScanned 0 1 (1 ∷ []) 0 2 (blank 1) .answer ≡ scanned.Done 2
 unfolding checkNet legalPrefix after rounds same round command links link mark
 count-2 = refl
 
+-- One number is not both counts: an engine that reports the same number in both breaks demand 2.
+pub one-number-breaks : (e : Engine) (c : ℕ) → e .forwardScan 0 1 [] 0 2 (blank 1) .answer ≡ scanned.Done c → e .forwardScan 0 1 (1 ∷ []) 0 2 (blank 1) .answer ≡ scanned.Done c
+    → Demand2 e → ⊥
+one-number-breaks e c h g d =
+    miscounting-breaks e 0 1 [] 0 2 (blank 1) c 1 h (demand-2 .forwardRounds 0 1 [] 0 2 (blank 1) 1 count-1 .0)
+    (λ p. miscounting-breaks e 0 1 (1 ∷ []) 0 2 (blank 1) c 2 g (demand-2 .forwardRounds 0 1 (1 ∷ []) 0 2 (blank 1) 2 count-2 .0) (λ q. omega arith) d) d
+
+-- What is invented there is what the engine reports.
 reports-1 : (invented : ℕ → ℕ → List ℕ → ℕ → ℕ → List ℕ → ℕ) → inventor invented .forwardScan 0 1 [] 0 2 (blank 1) .answer ≡ scanned.Done (invented 0 1 [] 0 2 (blank 1))
 unfolding legalPrefix rounds same round command links link mark
 reports-1 invented = refl
@@ -148,11 +166,27 @@ reports-2 : (invented : ℕ → ℕ → List ℕ → ℕ → ℕ → List ℕ �
 unfolding legalPrefix rounds same round command links link mark
 reports-2 invented = refl
 
--- The rounds alone shut it out where its marks are right: one invented number is not both counts.
+-- So the rounds alone shut out the engine that invents one number for all.
 pub invented-count-breaks : (c : ℕ) → Demand2 (inventor (λ o k ws x budget m. c)) → ⊥
-invented-count-breaks c d =
-    let a = demand-2 .forwardRounds 0 1 [] 0 2 (blank 1) 1 count-1 .0 in
-    let b = demand-2 .forwardRounds 0 1 (1 ∷ []) 0 2 (blank 1) 2 count-2 .0 in
-    let e = count-unique forward [] (forwardStart 1 0) c 1 (d .forwardRounds 0 1 [] 0 2 (blank 1) c (reports-1 (λ o k ws x budget m. c)) .0) a in
-    let f = count-unique forward (1 ∷ []) (forwardStart 1 0) c 2 (d .forwardRounds 0 1 (1 ∷ []) 0 2 (blank 1) c (reports-2 (λ o k ws x budget m. c)) .0) b in
-    omega arith
+invented-count-breaks c = let one : ℕ → ℕ → List ℕ → ℕ → ℕ → List ℕ → ℕ = λ o k ws x budget m. c in one-number-breaks (inventor one) c (reports-1 one) (reports-2 one)
+
+-- ── one that updates marks inside a command ──
+
+-- Net M, forward from 0: it counts 4 rounds, and the machine 5.
+counts-4 : hasty .forwardScan 2 4 M 0 12 (blank 6) ≡ outcome (scanned.Done 4) (1 ∷ 2 ∷ 1 ∷ 2 ∷ 2 ∷ 2 ∷ [])
+unfolding legalPrefix same hastyRounds hastyRound hastyLinks link mark
+counts-4 = refl
+
+counts-5 : forwardScanned 2 4 M 0 12 (blank 6) ≡ outcome (scanned.Done 5) (1 ∷ 2 ∷ 1 ∷ 2 ∷ 2 ∷ 2 ∷ [])
+unfolding legalPrefix rounds same round command links link mark
+counts-5 = refl
+
+-- The marks at the end are those of our engine.
+pub hasty-same-marks : hasty .forwardScan 2 4 M 0 12 (blank 6) .marks ≡ forwardScanned 2 4 M 0 12 (blank 6) .marks
+hasty-same-marks = ap (λ (r : Outcome). r .marks) counts-4 ∙ sym (ap (λ (r : Outcome). r .marks) counts-5)
+
+-- So it breaks demand 2 by its rounds.
+pub hasty-breaks : Demand2 hasty → ⊥
+hasty-breaks =
+    miscounting-breaks hasty 2 4 M 0 12 (blank 6) 4 5 (ap (λ (r : Outcome). r .answer) counts-4)
+    (demand-2 .forwardRounds 2 4 M 0 12 (blank 6) 5 (ap (λ (r : Outcome). r .answer) counts-5) .0) (λ q. omega arith)

@@ -3,25 +3,29 @@ use Prim.Native.Nat.{ℕ, _+_}
 use mathlib.Core.Bool.{true, false}
 use mathlib.Core.List.{List}
 use Rattle.promises.specs.Tables.{Obeys}
-use Rattle.net.specs.Table.{netTable}
+use Rattle.net.specs.Table.{netTable, netDone}
 use Rattle.scan.specs.Table.{scanTable, scanDone}
 use Rattle.question.specs.Table.{questionTable, questionDone}
-use Rattle.promises.specs.Calls.{netDone, clashTable, clashDone, completionTable, completionDone, reasonTable, reasonDone, checkTable, checkDone}
+use Rattle.theory.specs.Completion.{complete}
+use Rattle.clash.specs.Table.{clashSearch, clashTable, clashDone}
+use Rattle.completion.specs.Table.{completionTable, completionDone}
+use Rattle.reason.specs.Table.{reasonTable, reasonDone}
+use Rattle.reason_check.specs.Table.{checkTable, checkDone}
 use Rattle.promises.specs.Numbers.{checkedNumber, scanNumber, questionNumber, clashNumber, completionNumber, reasonNumber, verdictNumber}
 use Rattle.promises.specs.Engines.{Engine}
 
 pub record Demand1 (e : Engine) : Type 0 where
-  pub netCheck : (o k : ℕ) (ws : List ℕ) → Obeys checkedNumber (netTable o k ws) (netDone o k ws) (e .netCheck o k ws)
+  pub netCheck : (o k : ℕ) (ws : List ℕ) → Obeys checkedNumber (netTable o k ws) (netDone o k) (e .netCheck o k ws)
   pub forwardScan : (o k : ℕ) (ws : List ℕ) (x budget : ℕ) (m : List ℕ)
       → Obeys scanNumber (scanTable false o k ws x budget m) (scanDone false ws x budget m (o + k)) (e .forwardScan o k ws x budget m)
   pub kindScan : (o k : ℕ) (ws : List ℕ) (y budget : ℕ) (m : List ℕ)
       → Obeys scanNumber (scanTable true o k ws y budget m) (scanDone true ws y budget m (o + k)) (e .kindScan o k ws y budget m)
   pub question : (o k : ℕ) (ws : List ℕ) (x y : ℕ) (m : List ℕ)
       → Obeys questionNumber (questionTable o k ws x y m) (questionDone ws x y m (o + k)) (e .question o k ws x y m)
-  pub clashTest : (o k : ℕ) (ws m : List ℕ) → Obeys clashNumber (clashTable o k ws m) (clashDone o k ws m) (e .clashTest o k ws m)
+  pub clashTest : (o k : ℕ) (ws m : List ℕ) → Obeys clashNumber (clashTable o k ws m) (clashDone (clashSearch o k ws) m (o + k)) (e .clashTest o k ws m)
   pub completion : (o k : ℕ) (ws m l : List ℕ)
-      → Obeys completionNumber (completionTable o k ws m l) (completionDone o k ws m l) (e .completion o k ws m l)
+      → Obeys completionNumber (completionTable o k ws m l) (completionDone (complete o k ws) m l (o + k)) (e .completion o k ws m l)
   pub reason : (o k : ℕ) (ws : List ℕ) (x y sign : ℕ) (d l : List ℕ)
-      → Obeys reasonNumber (reasonTable o k ws x y sign d l) (reasonDone o k ws x y sign d l) (e .reason o k ws x y sign d l)
+      → Obeys reasonNumber (reasonTable o k ws x y sign d l) (reasonDone ws x y sign d l (o + k)) (e .reason o k ws x y sign d l)
   pub reasonCheck : (o k : ℕ) (ws : List ℕ) (x y sign : ℕ) (l : List ℕ)
-      → Obeys verdictNumber (checkTable o k ws x y sign l) (checkDone o k ws x y sign l) (e .reasonCheck o k ws x y sign l)
+      → Obeys verdictNumber (checkTable o k ws x y sign) (checkDone o k ws x y sign l) (e .reasonCheck o k ws x y sign l)

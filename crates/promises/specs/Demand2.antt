@@ -1,6 +1,6 @@
 -- Demand 2: what is not refused is answered by the rules. A statement gets its yes or its no just if it is in the smallest set around the links
 -- that is closed under (3.1) to (3.5), from either end; and the count is how many rounds the marker machine runs.
-use Prim.Native.Nat.{ℕ, _+_, _*_, _-_, _≤_, _<_}
+use Prim.Native.Nat.{ℕ, suc, _+_, _*_, _-_, _≤_, _<_}
 use mathlib.Core.Path.{_≡_}
 use mathlib.Core.Bool.{Bool, true, false}
 use mathlib.Core.List.{List}
@@ -9,7 +9,8 @@ use Rattle.theory.specs.Words.{Sign, is, isnt}
 use Rattle.theory.specs.Nets.{Statements, Kind, Links}
 use Rattle.theory.specs.Support.{Supported, Closed}
 use Rattle.theory.specs.Marks.{At, markerOf, U, forward, kindly, forwardStart, kindStart}
-use Rattle.theory.specs.Scans.{Count}
+use Rattle.theory.specs.Scans.{after, Count}
+use Rattle.theory.specs.declared.Command.{Command}
 use Rattle.scan.specs.declared.Scanned.the-variants as scanned
 use Rattle.question.specs.declared.Answer.{Answer}
 use Rattle.question.specs.declared.Answer.the-variants.{None, Yes, No, Both}
@@ -30,20 +31,28 @@ says No is = false
 says No isnt = true
 says Both s = true
 
+-- The rounds of a budget that was spent: all of them were run, and each of them set something, so that none was the last.
+pub record SpentRounds (cs : List Command) (ws m : List ℕ) (budget count : ℕ) : Type 0 where
+  pub all : count ≡ budget
+  pub busy : (j : ℕ) → j < budget → after cs ws (suc j) m ≡ after cs ws j m → ⊥
+
 pub record Demand2 (e : Engine) : Type 0 where
   -- The question: yes exactly if x → y is supported, no exactly if x ↛ y is; its rounds are those of the forward scan, at most 2N.
   pub question : (o k : ℕ) (ws : List ℕ) (x y : ℕ) (m : List ℕ) (a : Answer) (count : ℕ) → e .question o k ws x y m .answer ≡ asked.Done a count
       → (s : Sign) → (says a s ≡ true) ↔ Supported o k (Links ws) x y s
   pub questionRounds : (o k : ℕ) (ws : List ℕ) (x y : ℕ) (m : List ℕ) (a : Answer) (count : ℕ) → e .question o k ws x y m .answer ≡ asked.Done a count
       → Count forward ws (forwardStart (o + k) x) count × (count ≤ 2 * (o + k))
-  -- The forward scan: the same at every kind; where the budget is spent no mark at a kind is wrong.
+  -- The forward scan: the same at every kind; where the budget is spent no mark at a kind is wrong, and there was no quiet round.
   pub forwardScan : (o k : ℕ) (ws : List ℕ) (x budget : ℕ) (m : List ℕ) (count : ℕ) → e .forwardScan o k ws x budget m .answer ≡ scanned.Done count
       → (y : ℕ) → Kind o k y → (s : Sign) → At (e .forwardScan o k ws x budget m .marks) (markerOf s) y ↔ Supported o k (Links ws) x y s
   pub forwardRounds : (o k : ℕ) (ws : List ℕ) (x budget : ℕ) (m : List ℕ) (count : ℕ) → e .forwardScan o k ws x budget m .answer ≡ scanned.Done count
       → Count forward ws (forwardStart (o + k) x) count × (count ≤ 2 * (o + k))
   pub forwardSpent : (o k : ℕ) (ws : List ℕ) (x budget : ℕ) (m : List ℕ) (count : ℕ) → e .forwardScan o k ws x budget m .answer ≡ scanned.Spent count
       → (y : ℕ) → Kind o k y → (s : Sign) → At (e .forwardScan o k ws x budget m .marks) (markerOf s) y → Supported o k (Links ws) x y s
-  -- The kind scan: the same at every node, and U at z exactly if y → z; at most 3N − 1 rounds; where the budget is spent no mark is wrong.
+  pub forwardSpentRounds : (o k : ℕ) (ws : List ℕ) (x budget : ℕ) (m : List ℕ) (count : ℕ) → e .forwardScan o k ws x budget m .answer ≡ scanned.Spent count
+      → SpentRounds forward ws (forwardStart (o + k) x) budget count
+  -- The kind scan: the same at every node, and U at z exactly if y → z; at most 3N − 1 rounds; where the budget is spent no mark is wrong,
+  -- and there was no quiet round.
   pub kindScan : (o k : ℕ) (ws : List ℕ) (y budget : ℕ) (m : List ℕ) (count : ℕ) → e .kindScan o k ws y budget m .answer ≡ scanned.Done count
       → (x : ℕ) → x < o + k → (s : Sign) → At (e .kindScan o k ws y budget m .marks) (markerOf s) x ↔ Supported o k (Links ws) x y s
   pub kindScanUp : (o k : ℕ) (ws : List ℕ) (y budget : ℕ) (m : List ℕ) (count : ℕ) → e .kindScan o k ws y budget m .answer ≡ scanned.Done count
@@ -54,3 +63,5 @@ pub record Demand2 (e : Engine) : Type 0 where
       → (x : ℕ) → x < o + k → (s : Sign) → At (e .kindScan o k ws y budget m .marks) (markerOf s) x → Supported o k (Links ws) x y s
   pub kindSpentUp : (o k : ℕ) (ws : List ℕ) (y budget : ℕ) (m : List ℕ) (count : ℕ) → e .kindScan o k ws y budget m .answer ≡ scanned.Spent count
       → (z : ℕ) → z < o + k → At (e .kindScan o k ws y budget m .marks) U z → Supported o k (Links ws) y z is
+  pub kindSpentRounds : (o k : ℕ) (ws : List ℕ) (y budget : ℕ) (m : List ℕ) (count : ℕ) → e .kindScan o k ws y budget m .answer ≡ scanned.Spent count
+      → SpentRounds kindly ws (kindStart (o + k) y) budget count

@@ -50,9 +50,11 @@ pub record Demand3 (e : Engine) : Type 0 where
       → (n ≡ length out) × (length l < n)
   -- A completed list is completed to itself.
   pub again : (o k : ℕ) (ws out : List ℕ) → Net o k ws → CompletesTo e o k ws out → CompletesTo e o k out out
-  -- A joined net is completed to the same list where one part was completed before.
+  -- A joined net is completed to the same list where its left part was completed before, and where its right part was.
   pub part : (o k : ℕ) (ws vs out all : List ℕ) → Joined o k ws vs → CompletesTo e o k ws out → length (out ++ vs) ≤ wordLimit
       → CompletesTo e o k (ws ++ vs) all ↔ CompletesTo e o k (out ++ vs) all
+  pub partRight : (o k : ℕ) (ws vs out all : List ℕ) → Joined o k ws vs → CompletesTo e o k vs out → length (ws ++ out) ≤ wordLimit
+      → CompletesTo e o k (ws ++ vs) all ↔ CompletesTo e o k (ws ++ out) all
   -- Two nets are completed to one list exactly if no third net that may be joined to each lets a question tell them apart.
   pub alike : (o k : ℕ) (ws vs a b : List ℕ) → Net o k ws → Net o k vs → CompletesTo e o k ws a → CompletesTo e o k vs b
       → (a ≡ b) ↔ ((us : List ℕ) → Joined o k ws us → Joined o k vs us → SameWord e o k (ws ++ us) (vs ++ us))

@@ -1,9 +1,12 @@
 -- An engine: what it answers and leaves for each call. The promises are stated of any engine; ours is the one that the operations' statements describe.
 use Prim.Native.Nat.{ℕ}
-use mathlib.Core.List.{List}
+use mathlib.Core.Bool.{cond}
+use mathlib.Core.List.{List, _++_}
+use Rattle.theory.specs.Scans.{Scan}
 use Rattle.net.specs.Table.{checkNet}
 use Rattle.net.specs.declared.Checked.{Checked}
-use Rattle.scan.specs.Table.{Outcome, forwardScanned, kindScanned}
+use Rattle.scan.specs.Table.{Outcome, outcome, forwardScanned, kindScanned}
+use Rattle.scan.specs.declared.Scanned.the-variants as scanned
 use Rattle.question.specs.Table.{Question, questioned}
 use Rattle.clash.specs.Table.{Clash, clashedBy}
 use Rattle.completion.specs.Table.{Completion, completedBy}
@@ -34,6 +37,10 @@ ours = record {
   reason = reasoned;
   reasonCheck = verdict;
 }
+
+-- What another scan leaves, done or spent, with the bytes `past` behind its marks.
+abbrev pub ran : Scan → List ℕ → Outcome
+ran s past = outcome (cond (s .done) (scanned.Done (s .count)) (scanned.Spent (s .count))) (s .marks ++ past)
 
 -- Our engine with another forward scan, kind scan, question or completion.
 abbrev pub withForwardScan : (ℕ → ℕ → List ℕ → ℕ → ℕ → List ℕ → Outcome) → Engine

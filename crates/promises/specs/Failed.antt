@@ -1,15 +1,15 @@
 -- The three earlier versions that failed, as engines. Each differs from ours only in its fault.
-use Prim.Native.Nat.{ℕ, _+_, _*_}
+use Prim.Native.Nat.{_+_, _*_}
 use mathlib.Core.Bool.{cond, _||_}
 use mathlib.Core.List.{List, [], _∷_, _++_}
 use lib.Dec.{ltb, leb}
 use lib.ListN.{length, drop}
 use Rattle.theory.specs.Marks.{T, F, toHead, forwardStart}
-use Rattle.theory.specs.Scans.{Scan, rounds, forwardScan}
+use Rattle.theory.specs.Scans.{rounds, fullScan}
 use Rattle.theory.specs.Downscan.{downscan}
 use Rattle.theory.specs.declared.Command.{Command}
 use Rattle.net.specs.declared.Refusal.the-variants.{BadQuestion, ShortBuffer}
-use Rattle.scan.specs.Table.{Outcome, outcome}
+use Rattle.scan.specs.Table.{outcome}
 use Rattle.scan.specs.declared.Scanned.the-variants as scanned
 use Rattle.question.specs.Table.{question, readAt}
 use Rattle.question.specs.declared.Answer.the-variants.{Yes}
@@ -17,8 +17,8 @@ use Rattle.question.specs.declared.Asked.the-variants as asked
 use Rattle.net.specs.Lines.{line, call}
 use Rattle.net.specs.Table.{netLines}
 use Rattle.question.specs.Table.{questionTable, questionDone}
-use Rattle.promises.specs.Calls.{noClash}
-use Rattle.promises.specs.Engines.{Engine, withKindScan, withQuestion}
+use Rattle.clash.specs.Table.{clashSearch, nowhere}
+use Rattle.promises.specs.Engines.{Engine, ran, withKindScan, withQuestion}
 
 -- Only the commands that follow an arrow forward, the first and the third: none goes back from a head to a tail.
 abbrev pub forwardOnly : List Command
@@ -33,12 +33,8 @@ abbrev pub classical : Engine
 classical =
     withQuestion (λ o k ws x y m.
     call (questionTable o k ws x y m)
-    (cond (noClash o k ws) (questionDone ws x y m (o + k))
-    (question (asked.Done Yes (forwardScan (o + k) ws x (2 * (o + k)) .count)) (forwardScan (o + k) ws x (2 * (o + k)) .marks ++ drop (o + k) m))))
-
--- What a scan leaves, done or spent.
-abbrev pub ran : Scan → List ℕ → Outcome
-ran s past = outcome (cond (s .done) (scanned.Done (s .count)) (scanned.Spent (s .count))) (s .marks ++ past)
+    (cond (nowhere (clashSearch o k ws)) (questionDone ws x y m (o + k))
+    (question (asked.Done Yes (fullScan (o + k) ws x .count)) (fullScan (o + k) ws x .marks ++ drop (o + k) m))))
 
 -- The report's backward search in place of the kind scan: it never climbs above the kind that it starts from.
 abbrev pub neverUp : Engine

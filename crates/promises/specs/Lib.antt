@@ -1,5 +1,4 @@
 pub mod Tables
-pub mod Calls
 pub mod Numbers
 pub mod Engines
 pub mod Demand1
@@ -7,6 +6,8 @@ pub mod Clashing
 pub mod Demand2
 pub mod Reasoning
 pub mod Demand3
+pub mod FromKind
 pub mod Readings
+pub mod AskM
 pub mod Worthless
 pub mod Failed

@@ -10,7 +10,7 @@ use Rattle.reason.specs.Table.{Reason, reasonedRow}
 use Rattle.reason_check.specs.Table.{verdictRow}
 use Rattle.reason_check.specs.declared.Verdict.{Verdict}
 use Rattle.netfile.specs.Contents.{contentsRow}
-use Rattle.promises.specs.Calls.{Reading}
+use Rattle.netfile.specs.Table.{Reading}
 
 abbrev pub checkedNumber : Checked → ℕ
 checkedNumber r = checkedRow r .number

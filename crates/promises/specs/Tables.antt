@@ -1,16 +1,11 @@
 -- What it means that a number of a call's table is given.
 use Prim.Native.Nat.{ℕ}
 use mathlib.Core.Path.{_≡_}
-use mathlib.Core.Bool.{Bool, true, false, cond, _&&_, not}
+use mathlib.Core.Bool.{Bool, true, false, cond}
 use mathlib.Core.List.{List, [], _∷_}
 use mathlib.Core.Logic.{_↔_}
 use lib.Dec.{eqb}
 use Rattle.net.specs.Lines.{Line}
-
--- No line applies.
-abbrev pub NoLine : {A : Type 0} → List (Line A) → Type 0
-NoLine [] = Unit {0}
-NoLine (l ∷ ls) = (l .applies ≡ false) × NoLine ls
 
 -- The one type or the other.
 abbrev pub choose : Bool → Type 0 → Type 0 → Type 0
@@ -26,28 +21,6 @@ Due n (l ∷ ls) = choose (eqb (l .number) n) (l .applies ≡ true) ((l .applies
 abbrev pub outcomeOf : {A : Type 0} → ℕ → List (Line A) → A → A
 outcomeOf n [] done = done
 outcomeOf n (l ∷ ls) done = cond (eqb (l .number) n) (l .outcome) (outcomeOf n ls done)
-
--- A number stands among the lines' numbers.
-abbrev pub among : {A : Type 0} → ℕ → List (Line A) → Bool
-among n [] = false
-among n (l ∷ ls) = cond (eqb (l .number) n) true (among n ls)
-
--- No two lines have one number.
-abbrev pub distinct : {A : Type 0} → List (Line A) → Bool
-distinct [] = true
-distinct (l ∷ ls) = not (among (l .number) ls) && distinct ls
-
--- The outcome of each line has the line's own number, where `number` reads the number of an outcome.
-abbrev pub Numbered : {A : Type 0} → (A → ℕ) → List (Line A) → Type 0
-Numbered number [] = Unit {0}
-Numbered number (l ∷ ls) = (number (l .outcome) ≡ l .number) × Numbered number ls
-
--- A table as it should be: numbered, no number twice, none of them 0, and 0 is what a call has to which no line applies.
-pub record Table {A : Type 0} (number : A → ℕ) (ls : List (Line A)) (done : A) : Type 0 where
-  pub numbered : Numbered number ls
-  pub once : distinct ls ≡ true
-  pub nonzero : among 0 ls ≡ false
-  pub zero : NoLine ls → number done ≡ 0
 
 -- An outcome obeys a table: its number is n exactly when n is due, and then all of it, every buffer included, is what line n says.
 pub record Obeys {A : Type 0} (number : A → ℕ) (ls : List (Line A)) (done r : A) : Type 0 where

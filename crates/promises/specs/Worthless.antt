@@ -1,31 +1,33 @@
--- Four worthless engines. Each differs from ours only in what makes it worthless.
-use Prim.Native.Nat.{ℕ, _+_}
-use mathlib.Core.Bool.{true, false}
+-- Four worthless engines, and one that looks right. Each differs from ours only in what is wrong with it.
+use Prim.Native.Nat.{ℕ, zero, suc, _+_, _*_}
+use mathlib.Core.Bool.{Bool, true, false}
 use mathlib.Core.List.{List, [], _∷_, _++_}
 use lib.Dec.{ltb}
 use lib.ListN.{length, drop}
-use Rattle.theory.specs.Marks.{round, forward, forwardStart}
+use Rattle.theory.specs.Marks.{link, round, forward, forwardStart}
+use Rattle.theory.specs.Scans.{same, Scan}
+use Rattle.theory.specs.declared.Command.{Command}
 use Rattle.net.specs.declared.Refusal.{Refusal}
 use Rattle.net.specs.declared.Checked.the-variants as checked
-use Rattle.scan.specs.Table.{Outcome, outcome}
-use Rattle.scan_start.specs.Starts.{cleared}
+use Rattle.scan.specs.Table.{Outcome, outcome, badStart, scanTable}
+use Rattle.scan_start.specs.Starts.{cleared, start}
+use Rattle.scan_round.specs.Turns.{commands}
 use Rattle.scan.specs.declared.Scanned.the-variants as scanned
-use Rattle.question.specs.Table.{question, questioned}
+use Rattle.question.specs.Table.{question, questionTable, questioned, readAt}
 use Rattle.clash.specs.Table.{clash}
 use Rattle.question.specs.declared.Answer.the-variants.{None}
 use Rattle.question.specs.declared.Asked.{Asked}
 use Rattle.question.specs.declared.Asked.the-variants as asked
 use Rattle.clash.specs.declared.Clashed.the-variants as clashed
-use Rattle.completion.specs.Table.{Completion, completion, fill}
+use Rattle.completion.specs.Table.{Completion, completion, completionLines, completionDone}
 use Rattle.completion.specs.declared.Completed.the-variants as completed
-use Rattle.net.specs.declared.Refusal.the-variants.{ShortBuffer}
+use Rattle.net.specs.declared.Refusal.the-variants.{BadQuestion, ShortBuffer}
 use Rattle.reason.specs.Table.{reason}
 use Rattle.reason.specs.declared.Reasoned.the-variants as reasonedAs
 use Rattle.reason_check.specs.declared.Verdict.the-variants as verdictAs
 use Rattle.net.specs.Lines.{line, call}
 use Rattle.net.specs.Table.{netLines}
-use Rattle.scan.specs.Table.{scanTable}
-use Rattle.promises.specs.Engines.{Engine, withForwardScan, withQuestion, withCompletion}
+use Rattle.promises.specs.Engines.{Engine, ours, ran, withForwardScan, withQuestion, withCompletion}
 
 -- One that refuses all calls, with the refusal r.
 abbrev pub refuser : Refusal → Engine
@@ -52,8 +54,7 @@ denier = withQuestion (λ o k ws x y m. question (silenced (questioned o k ws x 
 -- The net as its own completion, with the right refusals.
 abbrev pub ownCompletion : ℕ → ℕ → List ℕ → List ℕ → List ℕ → Completion
 ownCompletion o k ws m l =
-    call (netLines (λ r. completion (completed.Refused r) m l) o k ws (line 5 (ltb (length m) (o + k)) (completion (completed.Refused ShortBuffer) m l) ∷ []))
-    (fill ws (cleared (o + k) m) l)
+    call (netLines (λ r. completion (completed.Refused r) m l) o k ws (completionLines ws m l (o + k))) (completionDone ws m l (o + k))
 
 -- One that returns it.
 abbrev pub copier : Engine
@@ -67,3 +68,44 @@ oneRound invented o k ws x budget m =
 -- One that does so.
 abbrev pub inventor : (ℕ → ℕ → List ℕ → ℕ → ℕ → List ℕ → ℕ) → Engine
 inventor invented = withForwardScan (oneRound invented)
+
+-- All links, each tested against the marks that the links before it left, and not against those at the command's beginning.
+unfoldable pub hastyLinks : Command → List ℕ → List ℕ → List ℕ
+hastyLinks c [] m = m
+hastyLinks c (w ∷ ws) m = hastyLinks c ws (link c m w m)
+
+-- A round of such commands, and rounds until one sets nothing, within a budget.
+unfoldable pub hastyRound : List Command → List ℕ → List ℕ → List ℕ
+hastyRound [] ws m = m
+hastyRound (c ∷ cs) ws m = hastyRound cs ws (hastyLinks c ws m)
+
+unfoldable pub hastyRounds : List Command → List ℕ → ℕ → ℕ → List ℕ → Scan
+hastyRounds cs ws count zero m = record { done = false; count = count; marks = m }
+hastyRounds cs ws count (suc budget) m =
+    elim (same m (hastyRound cs ws m)) [
+      | true ↦ record { done = true; count = suc count; marks = hastyRound cs ws m }
+      | false ↦ hastyRounds cs ws (suc count) budget (hastyRound cs ws m)
+    ]
+
+-- The two scans by such rounds, with the right refusals.
+abbrev pub hastyScan : Bool → ℕ → ℕ → List ℕ → ℕ → ℕ → List ℕ → Outcome
+hastyScan kind o k ws x budget m =
+    call
+    (netLines (λ r. outcome (scanned.Refused r) m) o k ws
+    (line 4 (badStart kind o (o + k) x) (outcome (scanned.Refused BadQuestion) m)
+    ∷ line 5 (ltb (length m) (o + k)) (outcome (scanned.Refused ShortBuffer) m)
+    ∷ []))
+    (ran (hastyRounds (commands kind) ws 0 budget (start kind (o + k) x)) (drop (o + k) m))
+
+-- One that updates marks inside a command, in both scans and in the question.
+abbrev pub hasty : Engine
+hasty = record {
+  netCheck = ours .netCheck;
+  forwardScan = hastyScan false;
+  kindScan = hastyScan true;
+  question = λ o k ws x y m. call (questionTable o k ws x y m) (readAt y (hastyRounds forward ws 0 (2 * (o + k)) (forwardStart (o + k) x)) (drop (o + k) m));
+  clashTest = ours .clashTest;
+  completion = ours .completion;
+  reason = ours .reason;
+  reasonCheck = ours .reasonCheck;
+}

@@ -5,11 +5,11 @@ use mathlib.Core.Bool.{Bool, true, false, cond}
 use mathlib.Core.List.{List, _++_}
 use native.Mathlib.Omega.{arith}
 use borrow.Author.Tests.{le-ltb, lt-leb}
-use lib.ListN.{length, drop}
-use lib.Seq.{drop-at}
+use lib.ListN.{length, take, drop}
+use lib.Seq.{take-at, drop-at, length-front, length-take-le}
 use Rattle.theory.specs.Nets.{Net}
 use Rattle.theory.specs.Marks.{forward, forwardStart}
-use Rattle.theory.specs.Scans.{Scan, forwardScan}
+use Rattle.theory.specs.Scans.{fullScan}
 use Rattle.theory.proofs.Inside.{Inside, legal-inside}
 use Rattle.theory.proofs.Bounds.{forward-scan-long}
 use Rattle.net.specs.Lines.{call}
@@ -32,24 +32,30 @@ count-ran : (d : Bool) (c : ℕ) → countOf (cond d (Done c) (Spent c)) ≡ c
 count-ran true c = refl
 count-ran false c = refl
 
-module _ (o n : ℕ) (ws : List ℕ) (x b : ℕ) (m : List ℕ) (h : x < n) (l : n ≤ length m) {r : Scanned} {m′ : List ℕ} (e : outcome r m′ ≡ call (scanLines false o ws x b m n) (scanDone false ws x b m n)) where
-  abbrev scan : Scan
-  scan = forwardScan n ws x b
+-- What the code is left with where it scanned with the full budget: the answer r and the marks m′.
+module _ (o k n : ℕ) (ws : List ℕ) (net : Net o k ws) (e : n ≡ o + k) (x : ℕ) (h : x < n) (m : List ℕ) (l : n ≤ length m) {r : Scanned} {m′ : List ℕ}
+    (ran : outcome r m′ ≡ call (scanLines false o ws x (2 * n) m n) (scanDone false ws x (2 * n) m n)) where
+  full-ran : outcome r m′ ≡ over (record { done = fullScan n ws x .done; count = fullScan n ws x .count; marks = fullScan n ws x .marks ++ drop n m })
+  full-ran = ran ∙ rw (lt-leb n x h, le-ltb (length m) n l) (sym (scan-over forward ws (forwardStart n x) (2 * n) (drop n m)))
 
-  full-ran : outcome r m′ ≡ over (record { done = scan .done; count = scan .count; marks = scan .marks ++ drop n m })
-  full-ran = e ∙ rw (lt-leb n x h, le-ltb (length m) n l) (sym (scan-over forward ws (forwardStart n x) b (drop n m)))
+  full-count : countOf r ≡ fullScan n ws x .count
+  full-count = ap (λ (q : Outcome). countOf (q .answer)) full-ran ∙ count-ran (fullScan n ws x .done) (fullScan n ws x .count)
 
-  pub full-count : countOf r ≡ forwardScan n ws x b .count
-  full-count = ap (λ (q : Outcome). countOf (q .answer)) full-ran ∙ count-ran (forwardScan n ws x b .done) (forwardScan n ws x b .count)
-
-  pub full-marks : m′ ≡ forwardScan n ws x b .marks ++ drop n m
+  full-marks : m′ ≡ fullScan n ws x .marks ++ drop n m
   full-marks = ap (λ (q : Outcome). q .marks) full-ran
 
-module _ (o k n : ℕ) (ws : List ℕ) (net : Net o k ws) (e : n ≡ o + k) (x : ℕ) (h : x < n) where
-  -- The scan's marks are those of the nodes.
-  pub full-long : length (forwardScan n ws x (2 * n) .marks) ≡ n
-  full-long = subst (λ (i : ℕ). length (forwardScan i ws x (2 * i) .marks) ≡ i) (sym e) (forward-scan-long o k ws (net .legal) x (omega arith) (2 * (o + k)))
+  full-long : length (fullScan n ws x .marks) ≡ n
+  full-long = subst (λ (i : ℕ). length (fullScan i ws x .marks) ≡ i) (sym e) (forward-scan-long o k ws (net .legal) x (omega arith) (2 * (o + k)))
 
-  -- It leaves the bytes past them.
-  pub full-past : (m m′ : List ℕ) → m′ ≡ forwardScan n ws x (2 * n) .marks ++ drop n m → drop n m′ ≡ drop n m
-  full-past m m′ l = ap (drop n) l ∙ drop-at (forwardScan n ws x (2 * n) .marks) (drop n m) n full-long
+  -- The count, the marks of the nodes, the bytes past them as they were, and as many bytes as there were.
+  pub full-left : (countOf r ≡ fullScan n ws x .count) × ((take n m′ ≡ fullScan n ws x .marks) × ((drop n m′ ≡ drop n m) × (length m′ ≡ length m)))
+  full-left = (
+    full-count,
+    (
+      ap (take n) full-marks ∙ take-at (fullScan n ws x .marks) (drop n m) n full-long,
+      (
+        ap (drop n) full-marks ∙ drop-at (fullScan n ws x .marks) (drop n m) n full-long,
+        ap length full-marks ∙ length-front m (fullScan n ws x .marks) n (full-long ∙ sym (length-take-le n m l)),
+      ),
+    ),
+  )

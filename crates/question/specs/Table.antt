@@ -1,11 +1,11 @@
 -- The number table of the question whether x is y.
-use Prim.Native.Nat.{ℕ, _+_, _*_}
+use Prim.Native.Nat.{ℕ, _+_}
 use mathlib.Core.Bool.{cond}
 use mathlib.Core.List.{List, [], _∷_, _++_}
 use lib.Dec.{ltb}
 use lib.ListN.{length, getD, drop}
-use Rattle.theory.specs.Marks.{T, F, has}
-use Rattle.theory.specs.Scans.{Scan, forwardScan}
+use Rattle.theory.specs.Marks.{saysYes, saysNo}
+use Rattle.theory.specs.Scans.{Scan, fullScan}
 use Rattle.net.specs.Lines.{Line, line, call}
 use Rattle.net.specs.Table.{netLines, badPair, Row, row, refusalRow}
 use Rattle.net.specs.declared.Refusal.the-variants.{BadQuestion, ShortBuffer}
@@ -16,7 +16,7 @@ use Rattle.question.specs.declared.Asked.the-variants as asked
 
 -- What a byte at a kind answers.
 abbrev pub answerAt : ℕ → Answer
-answerAt b = cond (has T b) (cond (has F b) Both Yes) (cond (has F b) No None)
+answerAt b = cond (saysYes b) (cond (saysNo b) Both Yes) (cond (saysNo b) No None)
 
 -- What a question leaves: its answer and the marks.
 pub record Question : Type 0 where
@@ -31,12 +31,12 @@ abbrev pub questionLines : ℕ → ℕ → ℕ → List ℕ → ℕ → List (Li
 questionLines o x y m n =
     line 4 (badPair o n x y) (question (asked.Refused BadQuestion) m) ∷ line 5 (ltb (length m) n) (question (asked.Refused ShortBuffer) m) ∷ []
 
--- Line 0: the byte at y, the count, and the marks of the nodes; past them the bytes as they were. The budget is 2N.
+-- Line 0: the byte at y, the count, and the marks of the nodes; past them the bytes as they were.
 abbrev pub readAt : ℕ → Scan → List ℕ → Question
 readAt y s past = question (asked.Done (answerAt (getD (s .marks) y 0)) (s .count)) (s .marks ++ past)
 
 abbrev pub questionDone : List ℕ → ℕ → ℕ → List ℕ → ℕ → Question
-questionDone ws x y m n = readAt y (forwardScan n ws x (2 * n)) (drop n m)
+questionDone ws x y m n = readAt y (fullScan n ws x) (drop n m)
 
 abbrev pub questionTable : ℕ → ℕ → List ℕ → ℕ → ℕ → List ℕ → List (Line Question)
 questionTable o k ws x y m = netLines (λ r. question (asked.Refused r) m) o k ws (questionLines o x y m (o + k))

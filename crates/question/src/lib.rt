@@ -1,10 +1,9 @@
 // The question that a scope asks before a mean goes on the screen, and the scan that answers it.
 ghost use mathlib.Core.Path.{_≡_};
-ghost use mathlib.Core.List.{_++_};
-ghost use Prim.Native.Nat.{_+_, _*_, _<_, _≤_};
-ghost use lib.ListN.{length, drop};
+ghost use Prim.Native.Nat.{_+_, _<_, _≤_};
+ghost use lib.ListN.{length, take, drop};
 ghost use Rattle.theory.specs.Nets.{Net};
-ghost use Rattle.theory.specs.Scans.{forwardScan};
+ghost use Rattle.theory.specs.Scans.{fullScan};
 ghost use Rattle.question.specs.Table.{answerAt, question, questionLines, questionDone, questionTable};
 ghost use Rattle.net.specs.Lines.{call};
 use net::Checked;
@@ -28,14 +27,16 @@ pub enum Asked {
     Refused(Refusal),
 }
 
-// The forward scan from `x` with its full budget on a net that was checked; the count of its rounds.
+// The full scan from `x` on a net that was checked: its marks at the nodes, the bytes past them as they were, and the count of its rounds.
 pub fn full_scan(o: u32, k: u32, n: usize, words: &[u32], x: u32, marks: &mut [u8]) -> u32
     requires net { ⌜ Net o k (now words) ⌝ }
     requires size { ⌜ n ≡ o + k ⌝ }
     requires node { ⌜ x < n ⌝ }
     requires room { ⌜ n ≤ length (now marks) ⌝ }
-    ensures count { λ r. ⌜ r ≡ forwardScan n (now (words .entry)) x (2 * n) .count ⌝ }
-    ensures left { λ r. ⌜ now (marks .exit) ≡ forwardScan n (now (words .entry)) x (2 * n) .marks ++ drop n (now (marks .entry)) ⌝ }
+    ensures count { λ r. ⌜ r ≡ fullScan n (now (words .entry)) x .count ⌝ }
+    ensures nodes { λ r. ⌜ take n (now (marks .exit)) ≡ fullScan n (now (words .entry)) x .marks ⌝ }
+    ensures past { λ r. ⌜ drop n (now (marks .exit)) ≡ drop n (now (marks .entry)) ⌝ }
+    ensures long { λ r. ⌜ length (now (marks .exit)) ≡ length (now (marks .entry)) ⌝ }
 {
     let ran = scan_net(false, o, n, words, x, (2 * n) as u32, marks);
     match ran {

@@ -1,5 +1,5 @@
 // The number and the values of an answer of the proved operations.
-use library_row::Given;
+use net::Row;
 use netfile::Contents;
 use second::Outcome;
 
@@ -22,7 +22,7 @@ pub fn narrow(size: usize) -> u32 {
 }
 
 // The row that an exported function gives.
-pub fn row_given(given: Given) -> Outcome {
+pub fn row_given(given: Row) -> Outcome {
     row(given.number, given.first, given.second)
 }
 

@@ -1,10 +1,11 @@
 -- The paper's row tells which answer it is.
 use mathlib.Core.Path.{_≡_, refl, sym, ap, _∙_}
 use mathlib.Core.Bool.{cond}
+use mathlib.Core.Logic.{inl, inr}
+use native.Mathlib.Omega.{arith}
 use lib.Dec.{eqb}
 use Rattle.net.specs.Table.{Row}
-use Rattle.net.specs.declared.Refusal.the-variants.{TooManyNodes, TooManyWords, IllegalWord, BadQuestion, ShortBuffer}
-use Rattle.net.proofs.Rows.{refusalAt}
+use Rattle.net.proofs.Rows.{refusalAt, refusal-at-row, refusal-not}
 use Rattle.reason.specs.Table.{reasonedRow}
 use Rattle.reason.specs.declared.Reasoned.{Reasoned}
 use Rattle.reason.specs.declared.Reasoned.the-variants.{Done, Unsupported, Short, Refused}
@@ -21,11 +22,8 @@ pub reasoned-at-row : (r : Reasoned) → reasonedAt (reasonedRow r) ≡ r
 reasoned-at-row (Done places) = refl
 reasoned-at-row Unsupported = refl
 reasoned-at-row (Short needed) = refl
-reasoned-at-row (Refused TooManyNodes) = refl
-reasoned-at-row (Refused TooManyWords) = refl
-reasoned-at-row (Refused (IllegalWord i)) = refl
-reasoned-at-row (Refused BadQuestion) = refl
-reasoned-at-row (Refused ShortBuffer) = refl
+reasoned-at-row (Refused r) =
+    rw (refusal-not r 0 (inl refl), refusal-not r 7 (inr (omega arith)), refusal-not r 8 (inr (omega arith)), refusal-at-row r)
 
 -- No two answers have one row.
 pub reasoned-row-one-to-one : (r q : Reasoned) → reasonedRow r ≡ reasonedRow q → r ≡ q

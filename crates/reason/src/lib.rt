@@ -6,8 +6,9 @@ ghost use lib.ListN.{length, drop};
 ghost use Rattle.theory.specs.Words.{signAt};
 ghost use Rattle.theory.specs.Nets.{Net};
 ghost use Rattle.reason_walk.specs.Walk.{Leads};
-ghost use Rattle.reason.specs.Table.{reason, reasonNet, reasoned};
+ghost use Rattle.reason.specs.Table.{reason, reasonLines, reasonDone, reasoned};
 ghost use Rattle.reason.specs.Searched.{reasonFrom};
+ghost use Rattle.net.specs.Lines.{call};
 use net::Checked;
 use net::Refusal;
 use net::check_net;
@@ -18,9 +19,9 @@ use reason_walk::write_nodes;
 
 // What a reason answers: the places written, that the statement is not supported (row 7), the places needed (row 8), or a refusal.
 pub enum Reasoned {
-    Done(usize),
+    Done(u32),
     Unsupported,
-    Short(usize),
+    Short(u32),
     Refused(Refusal),
 }
 
@@ -54,8 +55,8 @@ fn write_reason(
         return Reasoned::Unsupported;
     }
     let links = far as usize;
-    let size = 3 + links;
-    if list.len() < size {
+    let size = 3 + far as u32;
+    if list.len() < size as usize {
         return Reasoned::Short(size);
     }
     let count = write_nodes(n, sign, words, places, x, &mut list[3..]);
@@ -75,7 +76,7 @@ fn reason_net(
     list: &mut [u16],
 ) -> Reasoned
     requires { ⌜ Net 0 n (now words) ⌝ }
-    ensures { λ r. ⌜ reason r (now (scratch .exit)) (now (list .exit)) ≡ reasonNet o n (now (words .entry)) x y sign (now (scratch .entry)) (now (list .entry)) ⌝ }
+    ensures { λ r. ⌜ reason r (now (scratch .exit)) (now (list .exit)) ≡ call (reasonLines o (now (words .entry)) x y sign (now (scratch .entry)) (now (list .entry)) n) (reasonDone (now (words .entry)) x y sign (now (scratch .entry)) (now (list .entry)) n) ⌝ }
 {
     if is_bad_statement(o, n, x, y, sign) {
         return Reasoned::Refused(Refusal::BadQuestion);

@@ -1,14 +1,13 @@
 -- What each verdict means: which lists hold and which fail, and when row 4 or a refusal of the net is given.
 use Prim.Native.Nat.{ℕ, _+_, _<_}
 use mathlib.Core.Path.{_≡_, refl, sym, _∙_}
-use mathlib.Core.Bool.{Bool, true, false, cond, _||_}
+use mathlib.Core.Bool.{Bool, true, false, cond}
 use mathlib.Core.List.{List}
 use mathlib.Core.Logic.{_⊎_, inl, inr, _↔_, ⊎-elim}
 use native.Mathlib.Omega.{arith}
-use borrow.Author.Tests.{ltb-false, leb-false, le-ltb, lt-leb}
-use lib.Dec.{ltb, leb}
 use lib.ListN.{getD}
-use Rattle.theory_laws.proofs.Booleans.{clash, not-so, or-none-left, or-none-right}
+use Rattle.theory_laws.proofs.Booleans.{clash, not-so}
+use Rattle.theory_laws.proofs.Deciding.{decides-not}
 use Rattle.theory.specs.Words.{signAt}
 use Rattle.theory.specs.Nets.{Links, Net}
 use Rattle.theory.specs.Support.{Supported}
@@ -19,39 +18,17 @@ use Rattle.theory.proofs.Inside.{legal-links}
 use Rattle.theory.proofs.Lemma1.{lemma1}
 use Rattle.theory.proofs.Check.{passes-exactly, passes-supported, reason-passes}
 use Rattle.net.specs.Table.{checkNet, badStatement}
+use Rattle.net.specs.Good.{GoodStatement}
 use Rattle.net.specs.declared.Refusal.{Refusal}
 use Rattle.net.specs.declared.Refusal.the-variants.{BadQuestion}
 use Rattle.net.specs.declared.Checked.{Checked}
 use Rattle.net.specs.declared.Checked.the-variants as checked
 use Rattle.net.proofs.NetCheck.{check-is-net, net-is-checked}
-use Rattle.reason_check.specs.Askable.{Askable}
-use Rattle.reason_check.specs.Table.{verdict, verdictNet}
+use Rattle.net.proofs.OnNet.{passed-on, gone-on}
+use Rattle.net.proofs.Good.{good-statement, good-kind}
+use Rattle.reason_check.specs.Table.{checkLines, checkDone, verdict}
 use Rattle.reason_check.specs.declared.Verdict.{Verdict}
 use Rattle.reason_check.specs.declared.Verdict.the-variants.{Holds, Fails, Refused}
-use Rattle.reason_check.proofs.Verdicts.{net-refused, net-checked}
-
-must-be : (p : Bool) → (p ≡ false → ⊥) → p ≡ true
-must-be true h = refl
-must-be false h = absurd (h refl)
-
--- Row 4 is not given exactly for what may be asked.
-pub good-statement : (o k x y sign : ℕ) → (badStatement o (o + k) x y sign ≡ false) ↔ Askable o k x y sign
-good-statement o k x y sign = (means, passes-on)
-  where
-    means : badStatement o (o + k) x y sign ≡ false → Askable o k x y sign
-    means h =
-        let pair = or-none-left (leb (o + k) x || (ltb y o || leb (o + k) y)) (ltb 1 sign) h in
-        let kinds = or-none-right (leb (o + k) x) (ltb y o || leb (o + k) y) pair in
-        record {
-          node = leb-false (o + k) x (or-none-left (leb (o + k) x) (ltb y o || leb (o + k) y) pair);
-          kind = record { low = ltb-false y o (or-none-left (ltb y o) (leb (o + k) y) kinds); high = leb-false (o + k) y (or-none-right (ltb y o) (leb (o + k) y) kinds) };
-          low = ltb-false 1 sign (or-none-right (leb (o + k) x || (ltb y o || leb (o + k) y)) (ltb 1 sign) h);
-        }
-
-    passes-on : Askable o k x y sign → badStatement o (o + k) x y sign ≡ false
-    passes-on a =
-        rw
-        (lt-leb (o + k) x (a .node), le-ltb y o (a .kind .low), lt-leb (o + k) y (a .kind .high), le-ltb 1 sign (a .low))
 
 -- The verdict on a net, by its two tests.
 abbrev judged : Bool → Bool → Verdict
@@ -80,8 +57,11 @@ module _ (o k : ℕ) (ws : List ℕ) (x y sign : ℕ) (l : List ℕ) where
   good = passes o k ws x y (signAt sign) l
 
   on-net : Net o k ws → judged bad good ≡ verdict o k ws x y sign l
-  unfolding bad good verdictNet
-  on-net net = net-checked o k ws x y sign l (sym (net-is-checked o k ws net)) refl refl
+  unfolding bad good
+  on-net net = gone-on Refused o k ws (checkLines o x y sign) (λ _. checkDone o k ws x y sign l) (net-is-checked o k ws net) refl
+
+  on-refusal : {r : Refusal} → checkNet o k ws ≡ checked.Refused r → Refused r ≡ verdict o k ws x y sign l
+  on-refusal e = passed-on Refused o k ws (checkLines o x y sign) (λ _. checkDone o k ws x y sign l) e
 
   -- The check of the net accepts it, or its refusal is the verdict.
   data Case : Type 0 where
@@ -90,46 +70,46 @@ module _ (o k : ℕ) (ws : List ℕ) (x y sign : ℕ) (l : List ℕ) where
 
   cases : (c : Checked) → checkNet o k ws ≡ c → Case
   cases (checked.Nodes n) e = let net = check-is-net o k ws n e .1 in accepted net (on-net net)
-  cases (checked.Refused r) e = refused r e (net-refused o k ws x y sign l refl e)
+  cases (checked.Refused r) e = refused r e (on-refusal e)
 
-  asked : bad ≡ false → Askable o k x y sign
+  asked : bad ≡ false → GoodStatement o (o + k) x y sign
   unfolding bad
-  asked = good-statement o k x y sign .0
+  asked = good-statement o (o + k) x y sign .0
 
-  is-asked : Askable o k x y sign → bad ≡ false
+  is-asked : GoodStatement o (o + k) x y sign → bad ≡ false
   unfolding bad
-  is-asked = good-statement o k x y sign .1
+  is-asked = good-statement o (o + k) x y sign .1
 
-  tested : Askable o k x y sign → (good ≡ true) ↔ Passes o k ws x y (signAt sign) l
+  tested : GoodStatement o (o + k) x y sign → (good ≡ true) ↔ Passes o k ws x y (signAt sign) l
   unfolding good
-  tested a = passes-exactly o k ws x y (signAt sign) l (a .kind)
+  tested a = passes-exactly o k ws x y (signAt sign) l (good-kind (a .pair))
 
   -- The list holds exactly if the net is accepted, the statement may be asked, and the list is a path that shows it.
-  pub holds-exactly : (verdict o k ws x y sign l ≡ Holds) ↔ (Net o k ws × Askable o k x y sign × Passes o k ws x y (signAt sign) l)
+  pub holds-exactly : (verdict o k ws x y sign l ≡ Holds) ↔ (Net o k ws × GoodStatement o (o + k) x y sign × Passes o k ws x y (signAt sign) l)
   holds-exactly = (at (cases (checkNet o k ws) refl), back)
     where
-      at : Case → verdict o k ws x y sign l ≡ Holds → Net o k ws × Askable o k x y sign × Passes o k ws x y (signAt sign) l
+      at : Case → verdict o k ws x y sign l ≡ Holds → Net o k ws × GoodStatement o (o + k) x y sign × Passes o k ws x y (signAt sign) l
       at (accepted net j) e =
           let (b, g) = judged-holds bad good (j ∙ e) in
           let a = asked b in
           (net, a, tested a .0 g)
       at (refused r f j) e = let z : _≡_ {A = ℕ} 0 1 = cc in absurd (omega arith)
 
-      back : Net o k ws × Askable o k x y sign × Passes o k ws x y (signAt sign) l → verdict o k ws x y sign l ≡ Holds
+      back : Net o k ws × GoodStatement o (o + k) x y sign × Passes o k ws x y (signAt sign) l → verdict o k ws x y sign l ≡ Holds
       back h = sym (on-net (h .0)) ∙ rw (is-asked (h .1), tested (h .1) .1 (h .2))
 
   -- It fails exactly if the net is accepted, the statement may be asked, and the list is no such path.
-  pub fails-exactly : (verdict o k ws x y sign l ≡ Fails) ↔ (Net o k ws × Askable o k x y sign × (Passes o k ws x y (signAt sign) l → ⊥))
+  pub fails-exactly : (verdict o k ws x y sign l ≡ Fails) ↔ (Net o k ws × GoodStatement o (o + k) x y sign × (Passes o k ws x y (signAt sign) l → ⊥))
   fails-exactly = (at (cases (checkNet o k ws) refl), back)
     where
-      at : Case → verdict o k ws x y sign l ≡ Fails → Net o k ws × Askable o k x y sign × (Passes o k ws x y (signAt sign) l → ⊥)
+      at : Case → verdict o k ws x y sign l ≡ Fails → Net o k ws × GoodStatement o (o + k) x y sign × (Passes o k ws x y (signAt sign) l → ⊥)
       at (accepted net j) e =
           let (b, g) = judged-fails bad good (j ∙ e) in
           let a = asked b in
           (net, a, λ p. clash (sym g ∙ tested a .1 p))
       at (refused r f j) e = let z : _≡_ {A = ℕ} 0 1 = cc in absurd (omega arith)
 
-      back : Net o k ws × Askable o k x y sign × (Passes o k ws x y (signAt sign) l → ⊥) → verdict o k ws x y sign l ≡ Fails
+      back : Net o k ws × GoodStatement o (o + k) x y sign × (Passes o k ws x y (signAt sign) l → ⊥) → verdict o k ws x y sign l ≡ Fails
       back h =
           let f : good ≡ false = not-so good (λ (g : good ≡ true). h .2 (tested (h .1) .0 g)) in
           sym (on-net (h .0)) ∙ rw (is-asked (h .1), f)
@@ -137,10 +117,10 @@ module _ (o k : ℕ) (ws : List ℕ) (x y sign : ℕ) (l : List ℕ) where
   -- It is refused exactly as the net is, or by row 4 where the statement may not be asked of an accepted net.
   pub refused-exactly : (r : Refusal)
       → (verdict o k ws x y sign l ≡ Refused r)
-      ↔ ((checkNet o k ws ≡ checked.Refused r) ⊎ (Net o k ws × (Askable o k x y sign → ⊥) × (r ≡ BadQuestion)))
-  refused-exactly r = (at (cases (checkNet o k ws) refl), ⊎-elim on-refusal on-question)
+      ↔ ((checkNet o k ws ≡ checked.Refused r) ⊎ (Net o k ws × (GoodStatement o (o + k) x y sign → ⊥) × (r ≡ BadQuestion)))
+  refused-exactly r = (at (cases (checkNet o k ws) refl), ⊎-elim (λ e. sym (on-refusal e)) on-question)
     where
-      at : Case → verdict o k ws x y sign l ≡ Refused r → (checkNet o k ws ≡ checked.Refused r) ⊎ (Net o k ws × (Askable o k x y sign → ⊥) × (r ≡ BadQuestion))
+      at : Case → verdict o k ws x y sign l ≡ Refused r → (checkNet o k ws ≡ checked.Refused r) ⊎ (Net o k ws × (GoodStatement o (o + k) x y sign → ⊥) × (r ≡ BadQuestion))
       at (accepted net j) e =
           let (b, f) = judged-refused bad good r (j ∙ e) in
           inr (net, (λ a. clash (sym (is-asked a) ∙ b)), f)
@@ -148,12 +128,9 @@ module _ (o k : ℕ) (ws : List ℕ) (x y sign : ℕ) (l : List ℕ) where
           let same : q ≡ r = cc in
           inl (rw same at f)
 
-      on-refusal : checkNet o k ws ≡ checked.Refused r → verdict o k ws x y sign l ≡ Refused r
-      on-refusal e = sym (net-refused o k ws x y sign l refl e)
-
-      on-question : Net o k ws × (Askable o k x y sign → ⊥) × (r ≡ BadQuestion) → verdict o k ws x y sign l ≡ Refused r
+      on-question : Net o k ws × (GoodStatement o (o + k) x y sign → ⊥) × (r ≡ BadQuestion) → verdict o k ws x y sign l ≡ Refused r
       on-question h =
-          let b : bad ≡ true = must-be bad (λ (f : bad ≡ false). h .1 (asked f)) in
+          let b : bad ≡ true = decides-not bad (asked, is-asked) .1 (h .1) in
           sym (on-net (h .0)) ∙ rw (b, h .2)
 
   -- What holds is supported.
@@ -163,7 +140,7 @@ module _ (o k : ℕ) (ws : List ℕ) (x y sign : ℕ) (l : List ℕ) where
       passes-supported o k ws x y (signAt sign) l (net .legal) p
 
 -- Of what may be asked, what is supported has a list that holds, and a reason that is found is one.
-module _ (o k : ℕ) (ws : List ℕ) (net : Net o k ws) (x y sign : ℕ) (may : Askable o k x y sign) where
+module _ (o k : ℕ) (ws : List ℕ) (net : Net o k ws) (x y sign : ℕ) (may : GoodStatement o (o + k) x y sign) where
   pub supported-exactly : Supported o k (Links ws) x y (signAt sign) ↔ ((l : List ℕ) × (verdict o k ws x y sign l ≡ Holds))
   supported-exactly = (some-list, λ h. holds-supported o k ws x y sign (h .0) (h .1))
     where
@@ -178,5 +155,5 @@ module _ (o k : ℕ) (ws : List ℕ) (net : Net o k ws) (x y sign : ℕ) (may : 
       → verdict o k ws x y sign (reasonList (o + k) x (reasonStates (o + k) (signAt sign) ws x y)) ≡ Holds
   reason-holds h =
       let l = reasonList (o + k) x (reasonStates (o + k) (signAt sign) ws x y) in
-      let p = reason-passes o k ws net x (may .node) y (may .kind) (signAt sign) h in
-      holds-exactly o k ws x y sign l .1 (net, may, passes-exactly o k ws x y (signAt sign) l (may .kind) .0 p)
+      let p = reason-passes o k ws net x (may .pair .node) y (good-kind (may .pair)) (signAt sign) h in
+      holds-exactly o k ws x y sign l .1 (net, may, passes-exactly o k ws x y (signAt sign) l (good-kind (may .pair)) .0 p)

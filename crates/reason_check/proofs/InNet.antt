@@ -11,7 +11,7 @@ use Rattle.theory.specs.Paths.{Step, First, Crossing, Second, Shows}
 use Rattle.theory.specs.Reasons.{written}
 use Rattle.theory.specs.Checks.{Passes}
 use Rattle.theory.proofs.Inside.{legal-links}
-use Rattle.reason_check.specs.Askable.{Askable}
+use Rattle.net.specs.Good.{GoodStatement}
 use Rattle.reason_check.specs.Table.{verdict}
 use Rattle.reason_check.specs.declared.Verdict.the-variants.{Fails}
 use Rattle.reason_check.proofs.Exactly.{fails-exactly}
@@ -60,7 +60,7 @@ module _ (o k : ℕ) (L : Statements) (legal : Legal o k L) where
       (joined xs (z ∷ zs) (first-nodes x xs (p .0)) (one-more (crossing-to _ z (p .1)) (second-nodes z zs (p .2))))
 
 -- Of what may be asked of a net: a list with a node outside it, past the two sizes, fails.
-pub outside-fails : (o k : ℕ) (ws : List ℕ) (x y sign : ℕ) (l : List ℕ) → Net o k ws → Askable o k x y sign
+pub outside-fails : (o k : ℕ) (ws : List ℕ) (x y sign : ℕ) (l : List ℕ) → Net o k ws → GoodStatement o (o + k) x y sign
     → (v : ℕ) → List·Memᴰ v (drop 2 l) → o + k ≤ v → verdict o k ws x y sign l ≡ Fails
 outside-fails o k ws x y sign l net may v m h = fails-exactly o k ws x y sign l .1 (net, may, never)
   where
@@ -68,5 +68,5 @@ outside-fails o k ws x y sign l net may v m h = fails-exactly o k ws x y sign l 
     never p =
         let n : List·Memᴰ v (drop 2 (written x (p .first) (p .second))) = rw (p .form) at m in
         let b : v < o + k =
-        shown-nodes o k (Links ws) (legal-links o k ws (net .legal)) x (p .first) (p .second) y (signAt sign) (may .node) (p .shows) v n in
+        shown-nodes o k (Links ws) (legal-links o k ws (net .legal)) x (p .first) (p .second) y (signAt sign) (may .pair .node) (p .shows) v n in
         omega arith

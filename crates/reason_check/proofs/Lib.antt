@@ -1,5 +1,4 @@
 pub mod Shape
-pub mod Verdicts
 pub mod Rows
 pub mod Readings
 pub mod Exactly

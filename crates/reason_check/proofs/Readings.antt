@@ -5,9 +5,8 @@ use mathlib.Core.List.{List, [], _∷_}
 use Rattle.theory.specs.Checks.{listed, allSteps, passes}
 use Rattle.theory.specs.NetM.{M}
 use Rattle.net.specs.Legal.{legalPrefix}
-use Rattle.net.specs.Table.{checkNet}
 use Rattle.net.specs.declared.Refusal.the-variants.{TooManyNodes, IllegalWord, BadQuestion}
-use Rattle.reason_check.specs.Table.{verdict, verdictChecked, verdictNet}
+use Rattle.reason_check.specs.Table.{verdict}
 use Rattle.reason_check.specs.declared.Verdict.{Verdict}
 use Rattle.reason_check.specs.declared.Verdict.the-variants.{Holds, Fails, Refused}
 
@@ -17,122 +16,122 @@ inM x y sign l = verdict 2 4 M x y sign l
 
 -- The shortest reason for 0 ↛ 5.
 pub reason : inM 0 5 1 (2 ∷ 3 ∷ 0 ∷ 2 ∷ 3 ∷ 4 ∷ 5 ∷ []) ≡ Holds
-unfolding verdictChecked verdictNet checkNet legalPrefix passes allSteps listed
+unfolding legalPrefix passes allSteps listed
 reason = refl
 
 -- The same list for the other sign.
 pub other-sign : inM 0 5 0 (2 ∷ 3 ∷ 0 ∷ 2 ∷ 3 ∷ 4 ∷ 5 ∷ []) ≡ Fails
-unfolding verdictChecked verdictNet checkNet legalPrefix passes allSteps listed
+unfolding legalPrefix passes allSteps listed
 other-sign = refl
 
 -- A node after the end.
 pub node-after : inM 0 5 1 (2 ∷ 3 ∷ 0 ∷ 2 ∷ 3 ∷ 4 ∷ 5 ∷ 5 ∷ []) ≡ Fails
-unfolding verdictChecked verdictNet checkNet legalPrefix passes allSteps listed
+unfolding legalPrefix passes allSteps listed
 node-after = refl
 
 -- Lists cut short.
 pub empty : inM 0 5 1 [] ≡ Fails
-unfolding verdictChecked verdictNet checkNet legalPrefix passes allSteps listed
+unfolding legalPrefix passes allSteps listed
 empty = refl
 
 pub one-place : inM 0 5 1 (2 ∷ []) ≡ Fails
-unfolding verdictChecked verdictNet checkNet legalPrefix passes allSteps listed
+unfolding legalPrefix passes allSteps listed
 one-place = refl
 
 pub two-places : inM 0 5 1 (2 ∷ 3 ∷ []) ≡ Fails
-unfolding verdictChecked verdictNet checkNet legalPrefix passes allSteps listed
+unfolding legalPrefix passes allSteps listed
 two-places = refl
 
 pub end-missing : inM 0 5 1 (2 ∷ 3 ∷ 0 ∷ 2 ∷ 3 ∷ 4 ∷ []) ≡ Fails
-unfolding verdictChecked verdictNet checkNet legalPrefix passes allSteps listed
+unfolding legalPrefix passes allSteps listed
 end-missing = refl
 
 -- Sizes that do not fit: no first part, and no second part where the sign asks for one.
 pub no-first-part : inM 0 5 1 (0 ∷ 5 ∷ 0 ∷ 2 ∷ 3 ∷ 4 ∷ 5 ∷ []) ≡ Fails
-unfolding verdictChecked verdictNet checkNet legalPrefix passes allSteps listed
+unfolding legalPrefix passes allSteps listed
 no-first-part = refl
 
 pub no-second-part : inM 0 2 1 (2 ∷ 0 ∷ 0 ∷ 2 ∷ []) ≡ Fails
-unfolding verdictChecked verdictNet checkNet legalPrefix passes allSteps listed
+unfolding legalPrefix passes allSteps listed
 no-second-part = refl
 
 -- Other ends than those asked.
 pub other-start : inM 1 5 1 (2 ∷ 3 ∷ 0 ∷ 2 ∷ 3 ∷ 4 ∷ 5 ∷ []) ≡ Fails
-unfolding verdictChecked verdictNet checkNet legalPrefix passes allSteps listed
+unfolding legalPrefix passes allSteps listed
 other-start = refl
 
 pub other-end : inM 0 4 1 (2 ∷ 3 ∷ 0 ∷ 2 ∷ 3 ∷ 4 ∷ 5 ∷ []) ≡ Fails
-unfolding verdictChecked verdictNet checkNet legalPrefix passes allSteps listed
+unfolding legalPrefix passes allSteps listed
 other-end = refl
 
 -- A kind repeated in either part.
 pub kind-repeated-first : inM 0 5 1 (3 ∷ 3 ∷ 0 ∷ 2 ∷ 2 ∷ 3 ∷ 4 ∷ 5 ∷ []) ≡ Holds
-unfolding verdictChecked verdictNet checkNet legalPrefix passes allSteps listed
+unfolding legalPrefix passes allSteps listed
 kind-repeated-first = refl
 
 pub kind-repeated-second : inM 0 5 1 (2 ∷ 4 ∷ 0 ∷ 2 ∷ 3 ∷ 4 ∷ 4 ∷ 5 ∷ []) ≡ Holds
-unfolding verdictChecked verdictNet checkNet legalPrefix passes allSteps listed
+unfolding legalPrefix passes allSteps listed
 kind-repeated-second = refl
 
 -- An object repeated.
 pub object-repeated : inM 0 5 1 (3 ∷ 3 ∷ 0 ∷ 0 ∷ 2 ∷ 3 ∷ 4 ∷ 5 ∷ []) ≡ Fails
-unfolding verdictChecked verdictNet checkNet legalPrefix passes allSteps listed
+unfolding legalPrefix passes allSteps listed
 object-repeated = refl
 
 -- A crossing with no link; one between a kind and itself needs a link too; and one taken from head to tail.
 pub no-crossing : inM 0 5 1 (1 ∷ 3 ∷ 0 ∷ 3 ∷ 4 ∷ 5 ∷ []) ≡ Fails
-unfolding verdictChecked verdictNet checkNet legalPrefix passes allSteps listed
+unfolding legalPrefix passes allSteps listed
 no-crossing = refl
 
 pub repeat-is-no-crossing : verdict 0 1 [] 0 0 1 (1 ∷ 1 ∷ 0 ∷ 0 ∷ []) ≡ Fails
-unfolding verdictChecked verdictNet checkNet legalPrefix passes allSteps listed
+unfolding legalPrefix passes allSteps listed
 repeat-is-no-crossing = refl
 
 pub crossing-to-itself : verdict 0 1 (1 ∷ []) 0 0 1 (1 ∷ 1 ∷ 0 ∷ 0 ∷ []) ≡ Holds
-unfolding verdictChecked verdictNet checkNet legalPrefix passes allSteps listed
+unfolding legalPrefix passes allSteps listed
 crossing-to-itself = refl
 
 pub crossing-turned : inM 3 2 1 (1 ∷ 1 ∷ 3 ∷ 2 ∷ []) ≡ Holds
-unfolding verdictChecked verdictNet checkNet legalPrefix passes allSteps listed
+unfolding legalPrefix passes allSteps listed
 crossing-turned = refl
 
 -- A step of the second part read forwards, and one of the first part read backwards.
 pub second-forwards : inM 2 3 1 (1 ∷ 2 ∷ 2 ∷ 4 ∷ 3 ∷ []) ≡ Fails
-unfolding verdictChecked verdictNet checkNet legalPrefix passes allSteps listed
+unfolding legalPrefix passes allSteps listed
 second-forwards = refl
 
 pub first-backwards : inM 3 4 0 (2 ∷ 0 ∷ 3 ∷ 4 ∷ []) ≡ Fails
-unfolding verdictChecked verdictNet checkNet legalPrefix passes allSteps listed
+unfolding legalPrefix passes allSteps listed
 first-backwards = refl
 
 -- A node outside the net.
 pub outside : inM 0 5 1 (2 ∷ 3 ∷ 0 ∷ 2 ∷ 60000 ∷ 4 ∷ 5 ∷ []) ≡ Fails
-unfolding verdictChecked verdictNet checkNet legalPrefix passes allSteps listed
+unfolding legalPrefix passes allSteps listed
 outside = refl
 
 -- A kind alone shows that it is itself; of an object nothing is asked (row 4).
 pub kind-alone : inM 3 3 0 (1 ∷ 0 ∷ 3 ∷ []) ≡ Holds
-unfolding verdictChecked verdictNet checkNet legalPrefix passes allSteps listed
+unfolding legalPrefix passes allSteps listed
 kind-alone = refl
 
 pub object-alone : inM 0 0 0 (1 ∷ 0 ∷ 0 ∷ []) ≡ Refused BadQuestion
-unfolding verdictChecked verdictNet checkNet legalPrefix passes allSteps listed
+unfolding legalPrefix passes allSteps listed
 object-alone = refl
 
 -- Row 4 for a start outside the net and for a sign above 1.
 pub no-node : inM 6 5 1 (2 ∷ 3 ∷ 0 ∷ 2 ∷ 3 ∷ 4 ∷ 5 ∷ []) ≡ Refused BadQuestion
-unfolding verdictChecked verdictNet checkNet legalPrefix passes allSteps listed
+unfolding legalPrefix passes allSteps listed
 no-node = refl
 
 pub no-sign : inM 0 5 2 (2 ∷ 3 ∷ 0 ∷ 2 ∷ 3 ∷ 4 ∷ 5 ∷ []) ≡ Refused BadQuestion
-unfolding verdictChecked verdictNet checkNet legalPrefix passes allSteps listed
+unfolding legalPrefix passes allSteps listed
 no-sign = refl
 
 -- Row 1 and row 3 come first, also where the statement is none.
 pub too-many-nodes : verdict 1024 1 [] 2000 0 2 [] ≡ Refused TooManyNodes
-unfolding verdictChecked verdictNet checkNet legalPrefix passes allSteps listed
+unfolding legalPrefix passes allSteps listed
 too-many-nodes = refl
 
 pub illegal-word : verdict 1 1 (2 ∷ 0 ∷ []) 2000 0 2 [] ≡ Refused (IllegalWord 1)
-unfolding verdictChecked verdictNet checkNet legalPrefix passes allSteps listed
+unfolding legalPrefix passes allSteps listed
 illegal-word = refl

@@ -2,7 +2,8 @@
 ghost use mathlib.Core.Path.{_≡_};
 ghost use Rattle.theory.specs.Words.{signAt};
 ghost use Rattle.theory.specs.Checks.{goesWith, passes};
-ghost use Rattle.reason_check.specs.Table.{verdict, verdictNet};
+ghost use Rattle.reason_check.specs.Table.{checkLines, checkDone, verdict};
+ghost use Rattle.net.specs.Lines.{call};
 use net::Checked;
 use net::Refusal;
 use net::check_net;
@@ -64,7 +65,7 @@ fn check_list(
     sign: u32,
     list: &[u16],
 ) -> Verdict
-    ensures { λ r. ⌜ r ≡ verdictNet o k n (now (words .entry)) x y sign (now (list .entry)) ⌝ }
+    ensures { λ r. ⌜ r ≡ call (checkLines o x y sign n) (checkDone o k (now (words .entry)) x y sign (now (list .entry))) ⌝ }
 {
     if is_bad_statement(o, n, x, y, sign) {
         return Verdict::Refused(Refusal::BadQuestion);

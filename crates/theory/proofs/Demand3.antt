@@ -35,11 +35,11 @@ module _ (o k : ℕ) where
   joined ws vs x y s = (monotone o k _ _ (join-links ws vs) x y s, monotone o k _ _ (links-join ws vs) x y s)
 
   -- The part of a joined net supports no more than the whole.
-  part-of : (ws vs : List ℕ) → Sub (Supported o k (Links ws)) (Supported o k (Links (ws ++ vs)))
+  pub part-of : (ws vs : List ℕ) → Sub (Supported o k (Links ws)) (Supported o k (Links (ws ++ vs)))
   part-of ws vs = monotone o k (Links ws) (Links (ws ++ vs)) (λ x y s n. links-join ws vs x y s (inl n))
 
   -- Two nets that support the same have the same completed lists.
-  completed-as : (ws vs out : List ℕ) → Sub (Supported o k (Links ws)) (Supported o k (Links vs)) → Sub (Supported o k (Links vs)) (Supported o k (Links ws)) → Completed o k ws out → Completed o k vs out
+  pub completed-as : (ws vs out : List ℕ) → Sub (Supported o k (Links ws)) (Supported o k (Links vs)) → Sub (Supported o k (Links vs)) (Supported o k (Links ws)) → Completed o k ws out → Completed o k vs out
   completed-as ws vs out f g c = record { ascending = c .ascending; exact = λ w. ((λ m. f _ _ _ (c .exact w .0 m)), λ p. c .exact w .1 (g _ _ _ p)) }
 
   module _ (ws out : List ℕ) (n : Net o k ws) (c : Completed o k ws out) where
@@ -118,12 +118,14 @@ module _ (o k : ℕ) where
       let i = ends o k (Links ws) (legal-links o k ws (a .legal)) x y s p in
       full-exact o k vs b x y s (i .0) (i .1) .0 (sym (e x y (i .0) (i .1) s) ∙ full-exact o k ws a x y s (i .0) (i .1) .1 p)
 
-  same-completed : (ws vs : List ℕ) → Net o k ws → Net o k vs → complete o k ws ≡ complete o k vs → Sub (Supported o k (Links ws)) (Supported o k (Links vs))
+  -- What a net supports a net with the same completed list supports.
+  pub same-completed : (ws vs : List ℕ) → Net o k ws → Net o k vs → complete o k ws ≡ complete o k vs → Sub (Supported o k (Links ws)) (Supported o k (Links vs))
   same-completed ws vs a b e x y s p =
       out-supported vs (complete o k vs) b (complete-completed o k vs b) x y s
       (rw e at (supported-out ws (complete o k ws) a (complete-completed o k ws a) x y s p))
 
-  beside-joined : (ws vs us : List ℕ) → Sub (Supported o k (Links ws)) (Supported o k (Links vs)) → Sub (Supported o k (Links (ws ++ us))) (Supported o k (Links (vs ++ us)))
+  -- It does so beside any third net.
+  pub beside-joined : (ws vs us : List ℕ) → Sub (Supported o k (Links ws)) (Supported o k (Links vs)) → Sub (Supported o k (Links (ws ++ us))) (Supported o k (Links (vs ++ us)))
   beside-joined ws vs us f x y s p = joined vs us x y s .1 (beside o k (Links ws) (Links vs) f (Links us) x y s (joined ws us x y s .0 p))
 
   -- No third net that may be joined to both makes any answer differ.
@@ -147,10 +149,15 @@ module _ (o k : ℕ) where
       → At (fullMarks o k ws x) (markerOf s) y → At (fullMarks o k (ws ++ vs) x) (markerOf s) y
   joining-keeps ws vs a b x y s h hy p = full-exact o k (ws ++ vs) b x y s h hy .1 (part-of ws vs x y s (full-exact o k ws a x y s h hy .0 p))
 
-  -- Links from one object change no answer to a question about another node.
+  -- Links from one object support nothing new about another node.
+  pub others-supported : (ws vs : List ℕ) → LegalWords o k ws → LegalWords o k vs → (a : ℕ) → a < o → ((w : ℕ) → List·Memᴰ w vs → tailOf w ≡ a)
+      → (x y : ℕ) (s : Sign) → (x ≡ a → ⊥) → Supported o k (Links (ws ++ vs)) x y s ↔ Supported o k (Links ws) x y s
+  others-supported ws vs n p a ha from x y s q =
+      let e = elsewhere o k a ha (Links ws) (Links vs) (legal-links o k ws n) (legal-links o k vs p) (λ x y s l. sym (l .tail) ∙ from (l .it) (l .listed)) x y s q in
+      ((λ t. e .0 (joined ws vs x y s .0 t)), λ t. joined ws vs x y s .1 (e .1 t))
+
+  -- So they change no answer to a question about another node.
   pub others-keep : (ws vs : List ℕ) → Net o k ws → Net o k (ws ++ vs) → (a : ℕ) → a < o → ((w : ℕ) → List·Memᴰ w vs → tailOf w ≡ a)
       → (x y : ℕ) → x < o + k → Kind o k y → (x ≡ a → ⊥) → SameAnswer (ws ++ vs) ws x y
   others-keep ws vs n j a ha from x y h hy q =
-      answer-same (ws ++ vs) ws j n x y h hy
-      (λ s. let e = elsewhere o k a ha (Links ws) (Links vs) (legal-links o k ws (n .legal)) (legal-links o k vs (legal-right ws vs (j .legal))) (λ x y s l. sym (l .tail) ∙ from (l .it) (l .listed)) x y s q in
-      ((λ p. e .0 (joined ws vs x y s .0 p)), λ p. joined ws vs x y s .1 (e .1 p)))
+      answer-same (ws ++ vs) ws j n x y h hy (λ s. others-supported ws vs (n .legal) (legal-right ws vs (j .legal)) a ha from x y s q)

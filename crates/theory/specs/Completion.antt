@@ -1,5 +1,5 @@
 -- Completion: all supported words, ascending, none twice.
-use Prim.Native.Nat.{ℕ, zero, suc, _+_, _*_, _≤_}
+use Prim.Native.Nat.{ℕ, zero, suc, _+_, _≤_}
 use mathlib.Core.Bool.{cond}
 use mathlib.Core.List.{List, [], _∷_, _++_, List·Memᴰ}
 use mathlib.Core.Logic.{_↔_}
@@ -7,8 +7,8 @@ use lib.ListN.{getD}
 use Rattle.theory.specs.Words.{is, isnt, word, tailOf, headOf, signOf}
 use Rattle.theory.specs.Nets.{Links}
 use Rattle.theory.specs.Support.{Supported}
-use Rattle.theory.specs.Marks.{T, F, has}
-use Rattle.theory.specs.Scans.{forwardScan}
+use Rattle.theory.specs.Marks.{saysYes, saysNo}
+use Rattle.theory.specs.Scans.{fullScan}
 
 -- Ascending, none twice, none below lo.
 abbrev pub Ascending : ℕ → List ℕ → Type 0
@@ -20,13 +20,13 @@ pub record Completed (o k : ℕ) (ws out : List ℕ) : Type 0 where
   pub ascending : Ascending 0 out
   pub exact : (w : ℕ) → List·Memᴰ w out ↔ Supported o k (Links ws) (tailOf w) (headOf w) (signOf w)
 
--- The marks of a forward scan from x that has its full budget, 2N rounds, which is never spent.
+-- The marks of the full scan from x.
 abbrev pub fullMarks : ℕ → ℕ → List ℕ → ℕ → List ℕ
-fullMarks o k ws x = forwardScan (o + k) ws x (2 * (o + k)) .marks
+fullMarks o k ws x = fullScan (o + k) ws x .marks
 
 -- The words about x and the kind y, by y's byte: yes before no.
 abbrev pub cell : ℕ → ℕ → ℕ → List ℕ
-cell x y b = cond (has T b) (word x y is ∷ []) [] ++ cond (has F b) (word x y isnt ∷ []) []
+cell x y b = cond (saysYes b) (word x y is ∷ []) [] ++ cond (saysNo b) (word x y isnt ∷ []) []
 
 -- The row of x by the marks m: j kinds from y on.
 unfoldable pub row : ℕ → List ℕ → ℕ → ℕ → List ℕ

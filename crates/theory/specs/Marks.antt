@@ -23,6 +23,13 @@ U = 2
 abbrev pub has : ℕ → ℕ → Bool
 has j b = eqb (b / 2 ^ j % 2) 1
 
+-- What the byte at a kind says after a full scan: yes is T, no is F.
+abbrev pub saysYes : ℕ → Bool
+saysYes b = has T b
+
+abbrev pub saysNo : ℕ → Bool
+saysNo b = has F b
+
 -- The marks have marker j at node v.
 abbrev pub At : List ℕ → ℕ → ℕ → Type 0
 At m j v = has j (getD m v 0) ≡ true

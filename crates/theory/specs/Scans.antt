@@ -1,5 +1,5 @@
 -- Scans: rounds until one sets nothing, within a budget of rounds.
-use Prim.Native.Nat.{ℕ, zero, suc, _≤_, _<_}
+use Prim.Native.Nat.{ℕ, zero, suc, _*_, _≤_, _<_}
 use mathlib.Core.Path.{_≡_}
 use mathlib.Core.Bool.{Bool, true, false, _&&_}
 use mathlib.Core.List.{List, [], _∷_}
@@ -40,6 +40,10 @@ forwardScan n ws x budget = rounds forward ws 0 budget (forwardStart n x)
 
 abbrev pub kindScan : ℕ → List ℕ → ℕ → ℕ → Scan
 kindScan n ws y budget = rounds kindly ws 0 budget (kindStart n y)
+
+-- The full scan from x, which answers what is asked about x: the forward scan with a budget of 2N rounds, which is never spent.
+abbrev pub fullScan : ℕ → List ℕ → ℕ → Scan
+fullScan n ws x = forwardScan n ws x (2 * n)
 
 -- c is the count: round c is the first that sets nothing, itself included in the count.
 pub record Count (cs : List Command) (ws m : List ℕ) (c : ℕ) : Type 0 where

@@ -1,6 +1,6 @@
 -- Tests that decide a statement: they pass exactly if it holds.
 use Prim.Native.Nat.{ℕ, _≤_, _<_}
-use mathlib.Core.Path.{_≡_, refl}
+use mathlib.Core.Path.{_≡_, refl, sym}
 use mathlib.Core.Bool.{Bool, true, false, _&&_, _||_, false≢true}
 use mathlib.Core.Logic.{_⊎_, inl, inr, _↔_, ⊎-elim}
 use lib.Dec.{eqb, ltb, leb}
@@ -26,6 +26,11 @@ decides-both false b f g = (λ e. absurd (false≢true e), λ p. f .1 (p .0))
 pub decides-either : (a b : Bool) {P Q : Type 0} → Decides a P → Decides b Q → Decides (a || b) (P ⊎ Q)
 decides-either true b f g = (λ e. inl (f .0 refl), λ p. refl)
 decides-either false b f g = (λ e. inr (g .0 e), λ p. ⊎-elim (λ q. absurd (false≢true (f .1 q))) (g .1) p)
+
+-- A test that fails exactly if P holds passes exactly if P does not.
+pub decides-not : (b : Bool) {P : Type 0} → (b ≡ false) ↔ P → Decides b (P → ⊥)
+decides-not true f = (λ e p. false≢true (sym (f .1 p)), λ h. refl)
+decides-not false f = (λ e. absurd (false≢true e), λ h. absurd (h (f .0 refl)))
 
 -- A statement that says the same may take its place.
 pub decides-same : (b : Bool) {P Q : Type 0} → Decides b P → (P → Q) → (Q → P) → Decides b Q

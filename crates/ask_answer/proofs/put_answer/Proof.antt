@@ -35,13 +35,13 @@ put-number-requires-2 : tie.Need-put-number-requires-2
 put-number-requires-2 c κs =
     let w = c .before .before .before .before in
     let r = room (w .put-bytes .ensures) (omega arith) in
-    omega (arith, most-digits 10 (c .number-of .result))
+    omega (arith, most-digits 10 (c .refusal-given .result .number))
 
 add-result-2 : tie.Need-add-result-2
 add-result-2 c =
     let w = c .before .before .before .before .before .before .before in
     let r = room (w .put-bytes .ensures) (omega arith) in
-    omega (arith, c .before .before .put-number2 .ensures .size, number-room (c .before .before .before .number-of .result) 10)
+    omega (arith, c .before .before .put-number2 .ensures .size, number-room (c .before .before .before .refusal-given .result .number) 10)
 
 returns : tie.Need-returns
 returns c =
@@ -51,7 +51,7 @@ returns c =
 returns-2 : tie.Need-returns-2
 returns-2 c =
     let w = c .before .before .before .before .before .before .before in
-    wrote-as (refused-fields (w .before .before .before .before .asked2 .given .1) (c .before .before .before .number-of .ensures)) (wrote-more (w .put-bytes .ensures) (omega arith) (c .before .before .put-number2 .ensures))
+    wrote-as (refused-fields (w .before .before .before .before .asked2 .given .1) (c .before .before .before .refusal-given .ensures)) (wrote-more (w .put-bytes .ensures) (omega arith) (c .before .before .put-number2 .ensures))
 
 pub put-answer-spec : {M : Type 1} → statement M
 put-answer-spec =

@@ -9,11 +9,6 @@ use Rattle.ask_text.proofs.answer_bodies.Tie as tie
 slice-aggregate-answer-net : tie.Need-slice-aggregate-answer-net
 slice-aggregate-answer-net c = words-read _ _ (c .before .before .before .before .read-words .last .1 .0) _ (c .before .before .before .before .read-words .ensures)
 
-answer-net-requires : tie.Need-answer-net-requires
-answer-net-requires c κs =
-    let read = words-read _ _ (c .before .before .before .before .before .read-words .last .1 .0) _ (c .before .before .before .before .before .read-words .ensures) in
-    (omega arith, (omega arith, omega arith))
-
 returns : tie.Need-returns
 returns c =
     let start = c .before .before .before .before .before .before .before .before .before .before .before .before .before .before in
@@ -29,6 +24,6 @@ answer-bodies-spec =
     (search needs)
     (search needs)
     slice-aggregate-answer-net
-    answer-net-requires
+    (search needs)
     (search needs)
     returns)

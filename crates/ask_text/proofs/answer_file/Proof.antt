@@ -8,38 +8,11 @@ use borrow.Author.Needs.{needs}
 use Rattle.ask_text.proofs.answer_file.Statement.{statement}
 use Rattle.ask_text.proofs.answer_file.Tie as tie
 
-read-contents-requires : tie.Need-read-contents-requires
-read-contents-requires c κs = search needs
-
-enum-told : tie.Need-enum-told
-enum-told c = search needs
-
-read-bodies-requires : tie.Need-read-bodies-requires
-read-bodies-requires c κs = search needs
-
-array-copy-out-answer-bodies : tie.Need-array-copy-out-answer-bodies
-array-copy-out-answer-bodies c = search needs
-
-array-copy-out-answer-bodies-2 : tie.Need-array-copy-out-answer-bodies-2
-array-copy-out-answer-bodies-2 c = search needs
-
-array-copy-out-answer-bodies-3 : tie.Need-array-copy-out-answer-bodies-3
-array-copy-out-answer-bodies-3 c = search needs
-
 answer-bodies-requires : tie.Need-answer-bodies-requires
 answer-bodies-requires c κs =
     let read = c .before .before .before .before in
     let bodies = handed _ (read .before .before .before .read-contents .ensures) now (read .read-bodies .result) (record { ptr = (0, 0); name = 0; now = [] }) (read .before .enum-told .given .1) (read .read-bodies .ensures) in
     (bodies .nodes-room, (bodies .words-room, (omega arith, omega arith)))
-
-enum-known-contents : tie.Need-enum-known-contents
-enum-known-contents c = search needs
-
-slice-aggregate-put-report : tie.Need-slice-aggregate-put-report
-slice-aggregate-put-report c = search needs
-
-put-report-requires : tie.Need-put-report-requires
-put-report-requires c κs = search needs
 
 returns : tie.Need-returns
 returns c =
@@ -58,15 +31,15 @@ pub answer-file-spec : {M : Type 1} → statement M
 answer-file-spec =
     tie.close
     (tie.spec
-    read-contents-requires
-    enum-told
-    read-bodies-requires
-    array-copy-out-answer-bodies
-    array-copy-out-answer-bodies-2
-    array-copy-out-answer-bodies-3
+    (search needs)
+    (search needs)
+    (search needs)
+    (search needs)
+    (search needs)
+    (search needs)
     answer-bodies-requires
-    enum-known-contents
-    slice-aggregate-put-report
-    put-report-requires
+    (search needs)
+    (search needs)
+    (search needs)
     returns
     returns-2)

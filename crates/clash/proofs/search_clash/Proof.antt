@@ -1,26 +1,25 @@
 -- The loop's invariant: what is left to search gives what the whole does, and the bytes past the nodes are as they were.
-use Prim.Native.Nat.{_<_, _≤_, _-_}
+use Prim.Native.Nat.{_≤_, _-_}
 use mathlib.Core.Path.{_≡_, refl, sym, _∙_}
 use native.Mathlib.Omega.{arith}
 use borrow.Author.Needs.{needs}
 use lib.ListN.{length, drop}
-use Rattle.clash.specs.Table.{firstClash}
-use Rattle.question.proofs.FullScans.{full-past}
+use Rattle.clash.specs.Table.{clashNodes, firstClash, clashSearch}
 use Rattle.clash.proofs.Search.{read-both, clash-whole, clash-stop, clash-go, clash-end}
 use Rattle.clash.proofs.search_clash.Statement.{statement}
 use Rattle.clash.proofs.search_clash.Tie as tie
 
 abbrev Inv-loop : tie.InvT-loop
 Inv-loop o k n words marks₀ objects x₀ marks x =
-    (x ≤ o) × (length marks ≡ length marks₀) × (drop n marks ≡ drop n marks₀) × (firstClash o k words 0 o ≡ firstClash o k words x (o - x))
+    (x ≤ clashNodes o k) × (length marks ≡ length marks₀) × (drop n marks ≡ drop n marks₀) × (clashSearch o k words ≡ firstClash o k words x (clashNodes o k - x))
 
 abbrev μ-loop : tie.MeasureT-loop
-μ-loop o k n words marks₀ objects x₀ marks x = o - x
+μ-loop o k n words marks₀ objects x₀ marks x = clashNodes o k - x
 
 loop-holds : tie.Need-loop-holds Inv-loop μ-loop
 loop-holds c =
     let a = c .before .before .args in
-    (omega arith, refl, refl, clash-whole (a .o) (a .k) (a .words .now))
+    (omega arith, refl, refl, clash-whole (a .o) (a .k) (a .words .now) (clashNodes (a .o) (a .k)))
 
 full-scan-requires : tie.Need-full-scan-requires Inv-loop μ-loop
 full-scan-requires c κs =
@@ -33,50 +32,39 @@ first-both-requires c κs =
     let scanned = c .before .before .before in
     let at = scanned .before .before .before in
     let s = at .before .before .before in
-    (omega (arith, s .pre .1 .0), omega (arith, scanned .full-scan .kept .1 .1 .1 .1 .1 .0, at .loop .inv .1, s .pre .1 .1))
+    (omega (arith, s .pre .1 .0), omega (arith, scanned .full-scan .ensures .1 .1 .1, at .loop .inv .1, s .pre .1 .1))
 
 same-length : tie.Need-same-length Inv-loop μ-loop
 same-length c =
     let scanned = c .before .before .before .before .before in
-    scanned .full-scan .kept .1 .1 .1 .1 .1 .0 ∙ scanned .before .before .before .loop .inv .1
+    scanned .full-scan .ensures .1 .1 .1 ∙ scanned .before .before .before .loop .inv .1
 
 returns : tie.Need-returns Inv-loop μ-loop
 returns c =
     let scanned = c .before .before .before .before .before in
+    let left = scanned .full-scan .ensures .1 in
     let at = scanned .before .before .before in
     let s = at .before .before .before in
-    let a = s .args in
-    let x = at .loop .x in
-    let inside : x < a .n = omega (arith, scanned .before .before .loop-test .taken, s .pre .1 .0) in
-    let e = scanned .full-scan .ensures .1 in
-    let m = at .loop .marks in
-    let m′ = scanned .full-scan .last .1 .1 .1 .1 .1 .0 in (
-      clash-stop (a .o) (a .k) (a .words .now) x (c .before .first-both .result) (scanned .before .before .loop-test .taken)
-          (c .before .first-both .ensures ∙ read-both (a .o) (a .k) (a .n) (a .words .now) (s .pre .0) (s .pre .1 .0) x inside m m′ e)
+    let a = s .args in (
+      clash-stop (a .o) (a .k) (a .words .now) (clashNodes (a .o) (a .k)) (at .loop .x) (c .before .first-both .result) (scanned .before .before .loop-test .taken)
+          (c .before .first-both .ensures ∙ read-both (a .o) (a .k) (a .n) (a .words .now) (at .loop .x) (scanned .full-scan .last .1 .1 .1 .1 .1 .0) (s .pre .1 .0) (left .0))
           (omega (arith, c .if1 .taken, s .pre .1 .0)) ∙ sym (at .loop .inv .3),
-      (
-        full-past (a .o) (a .k) (a .n) (a .words .now) (s .pre .0) (s .pre .1 .0) x inside m m′ e ∙ at .loop .inv .2,
-        scanned .full-scan .kept .1 .1 .1 .1 .1 .0 ∙ at .loop .inv .1,
-      ),
+      (left .1 .0 ∙ at .loop .inv .2, left .1 .1 ∙ at .loop .inv .1),
     )
 
 loop-again : tie.Need-loop-again Inv-loop μ-loop
 loop-again c =
     let scanned = c .before .before .before .before .before in
+    let left = scanned .full-scan .ensures .1 in
     let at = scanned .before .before .before in
     let s = at .before .before .before in
-    let a = s .args in
-    let x = at .loop .x in
-    let inside : x < a .n = omega (arith, scanned .before .before .loop-test .taken, s .pre .1 .0) in
-    let e = scanned .full-scan .ensures .1 in
-    let m = at .loop .marks in
-    let m′ = scanned .full-scan .last .1 .1 .1 .1 .1 .0 in (
+    let a = s .args in (
       omega (arith, scanned .before .before .loop-test .taken),
-      scanned .full-scan .kept .1 .1 .1 .1 .1 .0 ∙ at .loop .inv .1,
-      full-past (a .o) (a .k) (a .n) (a .words .now) (s .pre .0) (s .pre .1 .0) x inside m m′ e ∙ at .loop .inv .2,
+      left .1 .1 ∙ at .loop .inv .1,
+      left .1 .0 ∙ at .loop .inv .2,
       at .loop .inv .3
-          ∙ clash-go (a .o) (a .k) (a .words .now) x (c .before .first-both .result) (scanned .before .before .loop-test .taken)
-          (c .before .first-both .ensures ∙ read-both (a .o) (a .k) (a .n) (a .words .now) (s .pre .0) (s .pre .1 .0) x inside m m′ e)
+          ∙ clash-go (a .o) (a .k) (a .words .now) (clashNodes (a .o) (a .k)) (at .loop .x) (c .before .first-both .result) (scanned .before .before .loop-test .taken)
+          (c .before .first-both .ensures ∙ read-both (a .o) (a .k) (a .n) (a .words .now) (at .loop .x) (scanned .full-scan .last .1 .1 .1 .1 .1 .0) (s .pre .1 .0) (left .0))
           (omega (arith, c .if1 .left, s .pre .1 .0)),
     )
 
@@ -87,7 +75,7 @@ returns-2 : tie.Need-returns-2 Inv-loop μ-loop
 returns-2 c =
     let l = c .before .loop in
     let a = c .before .before .before .before .args in
-    (sym (l .inv .3 ∙ clash-end (a .o) (a .k) (a .words .now) (l .x) (c .loop-test .left)), (l .inv .2, l .inv .1))
+    (sym (l .inv .3 ∙ clash-end (a .o) (a .k) (a .words .now) (clashNodes (a .o) (a .k)) (l .x) (c .loop-test .left)), (l .inv .2, l .inv .1))
 
 pub search-clash-spec : {M : Type 1} → statement M
 search-clash-spec =

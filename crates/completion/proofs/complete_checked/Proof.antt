@@ -1,6 +1,7 @@
 -- Each return is one row of the table.
 use native.Mathlib.Omega.{arith}
 use borrow.Author.Needs.{needs}
+use Rattle.theory.specs.Completion.{complete}
 use Rattle.completion.proofs.Outcomes.{complete-unmarked, complete-short, complete-done}
 use Rattle.completion.proofs.complete_checked.Statement.{statement}
 use Rattle.completion.proofs.complete_checked.Tie as tie
@@ -8,7 +9,7 @@ use Rattle.completion.proofs.complete_checked.Tie as tie
 returns : tie.Need-returns
 returns c =
     let a = c .before .before .before .before .args in
-    complete-unmarked (a .o) (a .k) (a .n) (a .words .now) (a .marks .now) (a .list .now) (c .if1 .taken)
+    complete-unmarked (complete (a .o) (a .k) (a .words .now)) (a .marks .now) (a .list .now) (a .n) (c .if1 .taken)
 
 returns-2 : tie.Need-returns-2
 returns-2 c =
@@ -16,7 +17,7 @@ returns-2 c =
     let tested = cleared .before .before in
     let counted = tested .before .before .before in
     let a = counted .before .before .before .before .before .before .args in
-    complete-short (a .o) (a .k) (a .n) (a .words .now) (a .marks .now) (a .list .now) (counted .before .before .if1 .left) (counted .count-rows .result)
+    complete-short (complete (a .o) (a .k) (a .words .now)) (a .marks .now) (a .list .now) (a .n) (counted .before .before .if1 .left) (counted .count-rows .result)
     (counted .count-rows .ensures .0) (counted .count-rows .last .1 .1 .1 .1 .0) (counted .count-rows .ensures .1 .0) (tested .if2 .taken)
     (cleared .clear .last .1 .0) (cleared .clear .ensures)
 
@@ -42,7 +43,7 @@ returns-3 c =
     let tested = written .before .before .before in
     let counted = tested .before .before .before in
     let a = counted .before .before .before .before .before .before .args in
-    complete-done (a .o) (a .k) (a .n) (a .words .now) (a .marks .now) (a .list .now) (counted .before .before .if1 .left) (counted .count-rows .result)
+    complete-done (complete (a .o) (a .k) (a .words .now)) (a .marks .now) (a .list .now) (a .n) (counted .before .before .if1 .left) (counted .count-rows .result)
     (counted .count-rows .ensures .0) (counted .count-rows .last .1 .1 .1 .1 .0) (counted .count-rows .ensures .1 .0) (tested .if2 .left)
     (written .write-rows .last .1 .1 .1 .1 .0) (cleared .clear2 .last .1 .0) (written .write-rows .last .1 .1 .1 .1 .1 .0)
     (written .write-rows .ensures .1 .0) (cleared .clear2 .ensures) (written .write-rows .ensures .0)

@@ -1,8 +1,11 @@
 -- The check's refusal is passed on, and its net is completed.
 use mathlib.Core.Path.{sym, _∙_}
 use borrow.Author.Needs.{needs}
+use Rattle.theory.specs.Completion.{complete}
+use Rattle.net.proofs.OnNet.{passed-on, gone-on}
 use Rattle.question.proofs.Outcomes.{checked-net}
-use Rattle.completion.proofs.Outcomes.{complete-refused, complete-checked}
+use Rattle.completion.specs.Table.{completion, completionLines, completionDone}
+use Rattle.completion.specs.declared.Completed.the-variants.{Refused}
 use Rattle.completion.proofs.complete_net.Statement.{statement}
 use Rattle.completion.proofs.complete_net.Tie as tie
 
@@ -18,7 +21,9 @@ returns c =
     let net = c .before in
     let checked = net .before .before in
     let a = checked .before .before .before .before .args in
-    complete-refused (a .o) (a .k) (a .words .now) (a .marks .now) (a .list .now) (sym (checked .check-net .ensures) ∙ net .net .given .1)
+    passed-on (λ r. completion (Refused r) (a .marks .now) (a .list .now)) (a .o) (a .k) (a .words .now)
+    (completionLines (complete (a .o) (a .k) (a .words .now)) (a .marks .now) (a .list .now))
+    (completionDone (complete (a .o) (a .k) (a .words .now)) (a .marks .now) (a .list .now)) (sym (checked .check-net .ensures) ∙ net .net .given .1)
 
 returns-2 : tie.Need-returns-2
 returns-2 c =
@@ -26,7 +31,9 @@ returns-2 c =
     let net = done .before .before .before .before in
     let checked = net .before .before in
     let a = checked .before .before .before .before .args in
-    complete-checked (a .o) (a .k) (a .words .now) (a .marks .now) (a .list .now) (sym (checked .check-net .ensures) ∙ net .net2 .given .1) (done .complete-checked .ensures)
+    gone-on (λ r. completion (Refused r) (a .marks .now) (a .list .now)) (a .o) (a .k) (a .words .now)
+    (completionLines (complete (a .o) (a .k) (a .words .now)) (a .marks .now) (a .list .now))
+    (completionDone (complete (a .o) (a .k) (a .words .now)) (a .marks .now) (a .list .now)) (sym (checked .check-net .ensures) ∙ net .net2 .given .1) (done .complete-checked .ensures)
 
 pub complete-net-spec : {M : Type 1} → statement M
 complete-net-spec =

@@ -5,7 +5,6 @@ use native.Mathlib.Omega.{arith}
 use borrow.Author.Needs.{needs}
 use lib.ListN.{length, drop}
 use Rattle.theory.specs.Completion.{fullMarks, row, rows, complete}
-use Rattle.question.proofs.FullScans.{full-past}
 use Rattle.completion_cell.proofs.Rows.{row-short}
 use Rattle.completion_list.proofs.Listing.{read-row, rows-all, rows-go, rows-end}
 use Rattle.completion_list.proofs.count_rows.Statement.{statement}
@@ -30,8 +29,7 @@ counted c =
     let a = s .args in
     c .count-row .ensures
     ∙ ap length
-    (read-row (a .o) (a .k) (a .n) (a .words .now) (s .pre .0) (s .pre .1 .0) (at .loop .x) (scanned .before .before .loop-test .taken) (at .loop .marks)
-    (scanned .full-scan .last .1 .1 .1 .1 .1 .0) (scanned .full-scan .ensures .1) 0)
+    (read-row (a .o) (a .k) (a .n) (a .words .now) (at .loop .x) (scanned .full-scan .last .1 .1 .1 .1 .1 .0) (s .pre .1 .0) (scanned .full-scan .ensures .1 .0) 0)
 
 -- A row has at most 2,048 words, and there are at most 1,024 nodes.
 few : (c : tie.After-count-row Inv-loop μ-loop) → (c .count-row .result ≤ 2048) × (c .before .before .before .before .before .before .before .before .before .before .args .n ≤ 1024)
@@ -63,7 +61,7 @@ count-row-requires c κs =
     let scanned = c .before .before .before in
     let at = scanned .before .before .before in
     let s = at .before .before .before in
-    (omega (arith, s .pre .1 .0), omega (arith, s .pre .0 .few, s .pre .1 .0), omega (arith, scanned .full-scan .kept .1 .1 .1 .1 .1 .0, at .loop .inv .1, s .pre .1 .1))
+    (omega (arith, s .pre .1 .0), omega (arith, s .pre .0 .few, s .pre .1 .0), omega (arith, scanned .full-scan .ensures .1 .1 .1, at .loop .inv .1, s .pre .1 .1))
 
 add-size : tie.Need-add-size Inv-loop μ-loop
 add-size c = omega (arith, few c, c .before .before .before .before .before .before .before .loop .inv .3, c .before .before .before .before .before .before .loop-test .taken)
@@ -71,15 +69,14 @@ add-size c = omega (arith, few c, c .before .before .before .before .before .bef
 loop-again : tie.Need-loop-again Inv-loop μ-loop
 loop-again c =
     let scanned = c .before .before .before .before in
+    let left = scanned .full-scan .ensures .1 in
     let inside = scanned .before .before in
     let at = inside .before in
     let s = at .before .before .before in
     let a = s .args in (
       omega (arith, inside .loop-test .taken),
-      scanned .full-scan .kept .1 .1 .1 .1 .1 .0 ∙ at .loop .inv .1,
-      full-past (a .o) (a .k) (a .n) (a .words .now) (s .pre .0) (s .pre .1 .0) (at .loop .x) (inside .loop-test .taken) (at .loop .marks)
-          (scanned .full-scan .last .1 .1 .1 .1 .1 .0) (scanned .full-scan .ensures .1)
-          ∙ at .loop .inv .2,
+      left .1 .1 ∙ at .loop .inv .1,
+      left .1 .0 ∙ at .loop .inv .2,
       omega (arith, at .loop .inv .3, few c),
       omega (arith, at .loop .inv .4, counted c, rows-go (a .o) (a .k) (a .words .now) (at .loop .x) (a .n) (inside .loop-test .taken)),
     )

@@ -7,7 +7,6 @@ use borrow.Author.Needs.{needs}
 use lib.ListN.{length, drop, length-take, length-drop}
 use Rattle.theory_laws.specs.Over.{over}
 use Rattle.theory.specs.Completion.{fullMarks, row, rows}
-use Rattle.question.proofs.FullScans.{full-past}
 use Rattle.completion_list.proofs.Listing.{read-row, rows-none, rows-all, rows-more, rows-room}
 use Rattle.theory_laws.proofs.Over.{written-more}
 use Rattle.completion_list.proofs.write_rows.Statement.{statement}
@@ -45,8 +44,7 @@ scanned-row c =
     let at = c .before .before .before in
     let s = at .before .before .before .before in
     let a = s .args in
-    read-row (a .o) (a .k) (a .n) (a .words .now) (s .pre .0) (s .pre .1 .0) (at .loop .x) (c .before .before .loop-test .taken) (at .loop .marks)
-    (c .full-scan .last .1 .1 .1 .1 .1 .0) (c .full-scan .ensures .1) (at .loop .x)
+    read-row (a .o) (a .k) (a .n) (a .words .now) (at .loop .x) (c .full-scan .last .1 .1 .1 .1 .1 .0) (s .pre .1 .0) (c .full-scan .ensures .1 .0) (at .loop .x)
 
 cast-nodes : tie.Need-cast-nodes Inv-loop μ-loop
 cast-nodes c = let s = c .before .before .before in omega (arith, s .pre .0 .few, s .pre .1 .0)
@@ -84,7 +82,7 @@ write-row-requires c κs =
       omega (arith, s .pre .1 .0),
       omega (arith, s .pre .0 .few, s .pre .1 .0),
       inside .loop-test .taken,
-      omega (arith, scanned .full-scan .kept .1 .1 .1 .1 .1 .0, at .loop .inv .1, s .pre .1 .1 .0),
+      omega (arith, scanned .full-scan .ensures .1 .1 .1, at .loop .inv .1, s .pre .1 .1 .0),
       simp (length-take, length-drop) (omega (arith, ap length (scanned-row scanned), room inside)),
     )
 
@@ -102,6 +100,7 @@ loop-again : tie.Need-loop-again Inv-loop μ-loop
 loop-again c =
     let called = c .before .before in
     let scanned = called .before .before .before .before .before in
+    let left = scanned .full-scan .ensures .1 in
     let inside = scanned .before .before in
     let at = inside .before .loop in
     let s = inside .before .before .before .before .before in
@@ -114,8 +113,8 @@ loop-again c =
     (rows-more (a .o) (a .k) (a .words .now) (at .x) ∙ ap (λ (q : List ℕ). done ++ q) (sym (scanned-row scanned)))
     (omega (arith, at .inv .3, at .inv .4, ap length (scanned-row scanned), room inside)) (at .inv .4) (at .inv .5) (called .write-row .ensures .0) (called .write-row .ensures .1) in (
       omega (arith, inside .loop-test .taken),
-      scanned .full-scan .kept .1 .1 .1 .1 .1 .0 ∙ at .inv .1,
-      full-past (a .o) (a .k) (a .n) (a .words .now) (s .pre .0) (s .pre .1 .0) (at .x) (inside .loop-test .taken) (at .marks) m (scanned .full-scan .ensures .1) ∙ at .inv .2,
+      left .1 .1 ∙ at .inv .1,
+      left .1 .0 ∙ at .inv .2,
       t .0,
       t .1,
       t .2,

@@ -4,21 +4,18 @@ use mathlib.Core.Path.{ap, _∙_}
 use borrow.Author.Needs.{needs}
 use Rattle.net.specs.Table.{row}
 use Rattle.question.specs.Table.{askedRow}
-use Rattle.library_row.proofs.Carrying.{carry-given, carry-fits}
+use Rattle.net.proofs.Rows.{carry-row}
 use Rattle.library_answer.proofs.asked_given.Statement.{statement}
 use Rattle.library_answer.proofs.asked_given.Tie as tie
-
-refusal-given-requires : tie.Need-refusal-given-requires
-refusal-given-requires c κs = carry-fits askedRow (c .before .asked2 .given .1) (c .before .before .before .pre)
 
 returns : tie.Need-returns
 returns c =
     let asked = c .before .before .before in
-    carry-given askedRow (asked .asked .given .1)
+    carry-row askedRow (asked .asked .given .1)
     (c .row-of .ensures ∙ ap (λ (answer : ℕ). row 0 answer (asked .asked .given .0 .1 .0)) (c .before .answer-number .ensures))
 
 returns-2 : tie.Need-returns-2
-returns-2 c = carry-given askedRow (c .before .before .asked2 .given .1) (c .refusal-given .ensures)
+returns-2 c = carry-row askedRow (c .before .before .asked2 .given .1) (c .refusal-given .ensures)
 
 pub asked-given-spec : {M : Type 1} → statement M
 asked-given-spec =
@@ -28,6 +25,6 @@ asked-given-spec =
     (search needs)
     (search needs)
     (search needs)
-    refusal-given-requires
+    (search needs)
     returns
     returns-2)

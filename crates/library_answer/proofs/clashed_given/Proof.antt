@@ -2,7 +2,8 @@
 use native.Mathlib.Omega.{arith}
 use borrow.Author.Needs.{needs}
 use Rattle.clash.specs.Table.{clashedRow}
-use Rattle.library_row.proofs.Carrying.{carry-given, carry-fits}
+use Rattle.net.proofs.Rows.{carry-row}
+use Rattle.library_row.proofs.Fitting.{carry-fits}
 use Rattle.library_answer.proofs.clashed_given.Statement.{statement}
 use Rattle.library_answer.proofs.clashed_given.Tie as tie
 
@@ -27,17 +28,14 @@ row-of-requires-2 c κs = search needs
 enum-known-clashed-2 : tie.Need-enum-known-clashed-2
 enum-known-clashed-2 c = search needs
 
-refusal-given-requires : tie.Need-refusal-given-requires
-refusal-given-requires c κs = carry-fits clashedRow (c .before .clashed2 .given .1) (c .before .before .before .pre)
-
 returns : tie.Need-returns
-returns c = carry-given clashedRow (c .before .before .clashed .given .1) (c .row-of .ensures)
+returns c = carry-row clashedRow (c .before .before .clashed .given .1) (c .row-of .ensures)
 
 returns-2 : tie.Need-returns-2
-returns-2 c = carry-given clashedRow (c .before .enum-told .given .1) (c .row-of2 .ensures)
+returns-2 c = carry-row clashedRow (c .before .enum-told .given .1) (c .row-of2 .ensures)
 
 returns-3 : tie.Need-returns-3
-returns-3 c = carry-given clashedRow (c .before .before .clashed2 .given .1) (c .refusal-given .ensures)
+returns-3 c = carry-row clashedRow (c .before .before .clashed2 .given .1) (c .refusal-given .ensures)
 
 pub clashed-given-spec : {M : Type 1} → statement M
 clashed-given-spec =
@@ -50,7 +48,7 @@ clashed-given-spec =
     enum-told
     row-of-requires-2
     enum-known-clashed-2
-    refusal-given-requires
+    (search needs)
     returns
     returns-2
     returns-3)

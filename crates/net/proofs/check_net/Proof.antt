@@ -27,4 +27,4 @@ returns-4 c =
     ends-nodes (a .o) (a .k) (a .words .now) (omega arith) (omega arith) (c .before .first-illegal .ensures) (omega arith)
 
 pub check-net-spec : {M : Type 1} → statement M
-check-net-spec = tie.close (tie.spec (search needs) returns returns-2 (search needs) returns-3 returns-4)
+check-net-spec = tie.close (tie.spec (search needs) returns returns-2 (search needs) (λ c. search needs) returns-3 returns-4)

@@ -2,7 +2,8 @@
 use mathlib.Core.Path.{sym, _∙_}
 use native.Mathlib.Omega.{arith}
 use borrow.Author.Needs.{needs}
-use Rattle.question.proofs.Outcomes.{good-pair, ask-bad, ask-short, ask-done}
+use Rattle.net.proofs.Good.{good-pair}
+use Rattle.question.proofs.Outcomes.{ask-bad, ask-short, ask-done}
 use Rattle.question.proofs.ask_net.Statement.{statement}
 use Rattle.question.proofs.ask_net.Tie as tie
 
@@ -22,7 +23,7 @@ full-scan-requires c κs =
     let tested = c .before .before in
     let s = tested .before .before .before .before in
     let a = s .args in
-    let good = good-pair (a .o) (a .n) (a .x) (a .y) (sym (tested .before .is-bad-pair .ensures) ∙ tested .if1 .left) in
+    let good = good-pair (a .o) (a .n) (a .x) (a .y) .0 (sym (tested .before .is-bad-pair .ensures) ∙ tested .if1 .left) in
     (s .pre .0, (s .pre .1, (good .node, c .before .if2 .left)))
 
 slice-read-byte : tie.Need-slice-read-byte
@@ -30,18 +31,17 @@ slice-read-byte c =
     let scanned = c .before .before .before in
     let tested = scanned .before .before .before in
     let a = tested .before .before .before .before .args in
-    let good = good-pair (a .o) (a .n) (a .x) (a .y) (sym (tested .before .is-bad-pair .ensures) ∙ tested .if1 .left) in
-    omega (arith, good .high, scanned .before .before .if2 .left, scanned .full-scan .kept .1 .1 .1 .1 .1 .0)
+    let good = good-pair (a .o) (a .n) (a .x) (a .y) .0 (sym (tested .before .is-bad-pair .ensures) ∙ tested .if1 .left) in
+    omega (arith, good .high, scanned .before .before .if2 .left, scanned .full-scan .ensures .1 .1 .1)
 
 returns-3 : tie.Need-returns-3
 returns-3 c =
     let scanned = c .before .before .before .before in
     let tested = scanned .before .before .before in
-    let s = tested .before .before .before .before in
-    let a = s .args in
-    ask-done (a .o) (a .n) (a .words .now) (a .x) (a .y) (a .marks .now) (a .k) (s .pre .0) (s .pre .1) (sym (tested .before .is-bad-pair .ensures) ∙ tested .if1 .left)
+    let a = tested .before .before .before .before .args in
+    ask-done (a .o) (a .n) (a .words .now) (a .x) (a .y) (a .marks .now) (sym (tested .before .is-bad-pair .ensures) ∙ tested .if1 .left)
     (scanned .before .before .if2 .left) (scanned .full-scan .last .1 .1 .1 .1 .1 .0) (scanned .full-scan .result) (c .answer-at .result)
-    (scanned .full-scan .ensures .0) (scanned .full-scan .ensures .1) (c .answer-at .ensures)
+    (scanned .full-scan .ensures .0) (scanned .full-scan .ensures .1 .0) (scanned .full-scan .ensures .1 .1 .0) (c .answer-at .ensures)
 
 pub ask-net-spec : {M : Type 1} → statement M
 ask-net-spec =

@@ -1,27 +1,39 @@
--- The check of the net, then its rows or its refusal.
+-- The check's refusal is passed on, and in its net the reason is looked for.
 use mathlib.Core.Path.{sym, _∙_}
 use borrow.Author.Needs.{needs}
-use Rattle.reason.proofs.NetReason.{checked-net, net-refused, net-checked}
+use Rattle.net.proofs.OnNet.{passed-on, gone-on}
+use Rattle.reason.specs.Table.{reason, reasonLines, reasonDone}
+use Rattle.reason.specs.declared.Reasoned.the-variants.{Refused}
+use Rattle.reason.proofs.NetReason.{checked-net}
 use Rattle.reason.proofs.find_reason.Statement.{statement}
 use Rattle.reason.proofs.find_reason.Tie as tie
 
 reason-net-requires : tie.Need-reason-net-requires
 reason-net-requires c κs =
-    let a = c .before .before .before .before .before .before .before .before .before .args in
-    let g = c .before .before .before .net .given in
-    checked-net (a .o) (a .k) (a .words .now) (g .0 .0) (sym (c .before .before .before .before .before .check-net .ensures) ∙ g .1)
+    let net = c .before .before .before in
+    let checked = net .before .before in
+    let a = checked .before .before .before .before .args in
+    checked-net (a .o) (a .k) (a .words .now) (net .net .given .0 .0) (sym (checked .check-net .ensures) ∙ net .net .given .1)
 
 returns : tie.Need-returns
 returns c =
-    let a = c .before .before .before .before .before .before .before .before .before .before .before .before .before .before .args in
-    let g = c .before .before .before .before .before .before .before .before .net .given in
-    net-checked (a .o) (a .words .now) (a .x) (a .y) (a .sign) (a .scratch .now) (a .list .now) (g .0 .0) (sym (c .before .before .before .before .before .before .before .before .before .before .check-net .ensures) ∙ g .1) (c .before .before .before .before .reason-net .ensures)
+    let found = c .before .before .before .before in
+    let net = found .before .before .before .before in
+    let checked = net .before .before in
+    let a = checked .before .before .before .before .args in
+    gone-on (λ r. reason (Refused r) (a .scratch .now) (a .list .now)) (a .o) (a .k) (a .words .now)
+    (reasonLines (a .o) (a .words .now) (a .x) (a .y) (a .sign) (a .scratch .now) (a .list .now))
+    (reasonDone (a .words .now) (a .x) (a .y) (a .sign) (a .scratch .now) (a .list .now)) (sym (checked .check-net .ensures) ∙ net .net .given .1)
+    (found .reason-net .ensures)
 
 returns-2 : tie.Need-returns-2
 returns-2 c =
-    let a = c .before .before .before .before .before .before .before .args in
-    let g = c .before .net2 .given in
-    net-refused (a .o) (a .words .now) (a .x) (a .y) (a .sign) (a .scratch .now) (a .list .now) (g .0 .0) (sym (c .before .before .before .check-net .ensures) ∙ g .1)
+    let net = c .before in
+    let checked = net .before .before in
+    let a = checked .before .before .before .before .args in
+    passed-on (λ r. reason (Refused r) (a .scratch .now) (a .list .now)) (a .o) (a .k) (a .words .now)
+    (reasonLines (a .o) (a .words .now) (a .x) (a .y) (a .sign) (a .scratch .now) (a .list .now))
+    (reasonDone (a .words .now) (a .x) (a .y) (a .sign) (a .scratch .now) (a .list .now)) (sym (checked .check-net .ensures) ∙ net .net2 .given .1)
 
 pub find-reason-spec : {M : Type 1} → statement M
 find-reason-spec =

@@ -1,10 +1,11 @@
 -- Each return is one row of the table.
 use Prim.Native.Nat.{_+_}
-use mathlib.Core.Path.{sym}
+use mathlib.Core.Path.{sym, _∙_}
 use borrow.Author.Needs.{needs}
 use lib.Seq.{length-take-le}
 use Rattle.theory.specs.Words.{signAt}
-use Rattle.reason.proofs.NetReason.{net-bad, good-nodes, net-short, front-length, front-leads, net-searched}
+use Rattle.net.proofs.Good.{good-statement}
+use Rattle.reason.proofs.NetReason.{net-bad, net-short, front-length, front-leads, net-searched}
 use Rattle.reason.proofs.reason_net.Statement.{statement}
 use Rattle.reason.proofs.reason_net.Tie as tie
 
@@ -27,8 +28,8 @@ find-distances-requires : tie.Need-find-distances-requires
 find-distances-requires c κs =
     let s = c .before .before .before .before .before .before .before in
     let a = s .args in
-    let nodes = good-nodes (a .o) (a .n) (a .words .now) (a .x) (a .y) (a .sign) (a .scratch .now) (a .list .now) (c .before .before .before .is-bad-statement .ensures) (c .before .before .if1 .left) in
-    (s .pre, (nodes .1, length-take-le (a .n + a .n) (a .scratch .now) (c .before .if2 .left)))
+    let good = good-statement (a .o) (a .n) (a .x) (a .y) (a .sign) .0 (sym (c .before .before .before .is-bad-statement .ensures) ∙ c .before .before .if1 .left) .pair in
+    (s .pre, (good .high, length-take-le (a .n + a .n) (a .scratch .now) (c .before .if2 .left)))
 
 slice-aggregate-write-reason : tie.Need-slice-aggregate-write-reason
 slice-aggregate-write-reason c =
@@ -42,8 +43,8 @@ write-reason-requires c κs =
     let a = s .args in
     let f = c .before .before .before .before .find-distances in
     let b = f .last .1 .1 .1 .1 .0 in
-    let nodes = good-nodes (a .o) (a .n) (a .words .now) (a .x) (a .y) (a .sign) (a .scratch .now) (a .list .now) (c .before .before .before .before .before .before .before .before .is-bad-statement .ensures) (c .before .before .before .before .before .before .before .if1 .left) in
-    (s .pre, (front-length (a .n) (signAt (a .sign)) (a .words .now) (a .y) (a .scratch .now) b (f .ensures), (front-leads (a .n) (signAt (a .sign)) (a .words .now) (a .y) (a .scratch .now) b (f .ensures) (s .pre) (nodes .1), nodes .0)))
+    let good = good-statement (a .o) (a .n) (a .x) (a .y) (a .sign) .0 (sym (c .before .before .before .before .before .before .before .before .is-bad-statement .ensures) ∙ c .before .before .before .before .before .before .before .if1 .left) .pair in
+    (s .pre, (front-length (a .n) (signAt (a .sign)) (a .words .now) (a .y) (a .scratch .now) b (f .ensures), (front-leads (a .n) (signAt (a .sign)) (a .words .now) (a .y) (a .scratch .now) b (f .ensures) (s .pre) (good .high), good .node)))
 
 returns-3 : tie.Need-returns-3
 returns-3 c =

@@ -20,8 +20,18 @@ cast-links c =
     let a = c .before .before .before .before .before .args in
     omega (arith, c .before .shared-slice-known3 .given (a .x))
 
+cast-size : tie.Need-cast-size
+cast-size c =
+    let a = c .before .before .before .before .before .args in
+    omega (arith, c .before .shared-slice-known3 .given (a .x))
+
 add-size : tie.Need-add-size
 add-size c =
+    let a = c .before .before .before .before .before .args in
+    omega (arith, c .before .shared-slice-known3 .given (a .x))
+
+cast-if2 : tie.Need-cast-if2
+cast-if2 c =
     let a = c .before .before .before .before .before .args in
     omega (arith, c .before .shared-slice-known3 .given (a .x))
 
@@ -92,7 +102,9 @@ write-reason-spec =
     (search needs)
     returns
     cast-links
+    cast-size
     add-size
+    cast-if2
     returns-2
     (search needs)
     (search needs)

@@ -1,22 +1,18 @@
 -- Each return is one case of the verdict on a net.
 use borrow.Author.Needs.{needs}
 use mathlib.Core.Path.{sym, _∙_}
-use Rattle.reason_check.specs.Table.{verdictNet}
 use Rattle.reason_check.proofs.check_list.Statement.{statement}
 use Rattle.reason_check.proofs.check_list.Tie as tie
 
 returns : tie.Need-returns
-unfolding verdictNet
 returns c = simp (sym (c .before .is-bad-statement .ensures) ∙ c .if1 .taken)
 
 returns-2 : tie.Need-returns-2
-unfolding verdictNet
 returns-2 c =
     simp
     (sym (c .before .before .before .is-bad-statement .ensures) ∙ c .before .before .if1 .left, sym (c .before .is-path .ensures) ∙ c .if2 .taken)
 
 returns-3 : tie.Need-returns-3
-unfolding verdictNet
 returns-3 c =
     simp
     (sym (c .before .before .before .is-bad-statement .ensures) ∙ c .before .before .if1 .left, sym (c .before .is-path .ensures) ∙ c .if2 .left)

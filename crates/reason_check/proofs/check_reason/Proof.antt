@@ -1,18 +1,28 @@
--- The check of the net refuses, or the list is checked.
-use Rattle.reason_check.proofs.Verdicts.{net-refused, net-checked}
+-- The check's refusal is passed on, and over its net the list is checked.
+use mathlib.Core.Path.{sym, _∙_}
 use borrow.Author.Needs.{needs}
+use Rattle.net.proofs.OnNet.{passed-on, gone-on}
+use Rattle.reason_check.specs.Table.{checkLines, checkDone}
+use Rattle.reason_check.specs.declared.Verdict.the-variants.{Refused}
 use Rattle.reason_check.proofs.check_reason.Statement.{statement}
 use Rattle.reason_check.proofs.check_reason.Tie as tie
 
 returns : tie.Need-returns
 returns c =
-    let a = c .before .before .before .before .before .before .args in
-    net-refused (a .o) (a .k) (a .words .now) (a .x) (a .y) (a .sign) (a .list .now) (c .before .before .before .check-net .ensures) (c .before .net .given .1)
+    let net = c .before in
+    let checked = net .before .before in
+    let a = checked .before .before .before .args in
+    passed-on Refused (a .o) (a .k) (a .words .now) (checkLines (a .o) (a .x) (a .y) (a .sign))
+    (λ _. checkDone (a .o) (a .k) (a .words .now) (a .x) (a .y) (a .sign) (a .list .now)) (sym (checked .check-net .ensures) ∙ net .net .given .1)
 
 returns-2 : tie.Need-returns-2
 returns-2 c =
-    let a = c .before .before .before .before .before .before .before .args in
-    net-checked (a .o) (a .k) (a .words .now) (a .x) (a .y) (a .sign) (a .list .now) (c .before .before .before .before .check-net .ensures) (c .before .before .net2 .given .1) (c .check-list .ensures)
+    let net = c .before .before in
+    let checked = net .before .before in
+    let a = checked .before .before .before .args in
+    gone-on Refused (a .o) (a .k) (a .words .now) (checkLines (a .o) (a .x) (a .y) (a .sign))
+    (λ _. checkDone (a .o) (a .k) (a .words .now) (a .x) (a .y) (a .sign) (a .list .now)) (sym (checked .check-net .ensures) ∙ net .net2 .given .1)
+    (c .check-list .ensures)
 
 pub check-reason-spec : {M : Type 1} → statement M
 check-reason-spec =

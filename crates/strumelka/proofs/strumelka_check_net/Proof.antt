@@ -2,7 +2,8 @@
 use mathlib.Core.Path.{sym}
 use borrow.Author.Needs.{needs}
 use Rattle.net.specs.Table.{checkedRow}
-use Rattle.library_row.proofs.Carrying.{carry-given, carry-fits}
+use Rattle.net.proofs.Rows.{carry-row}
+use Rattle.library_row.proofs.Fitting.{carry-fits}
 use Rattle.library_row.proofs.Fitting.{checked-fits}
 use Rattle.strumelka.proofs.strumelka_check_net.Statement.{statement}
 use Rattle.strumelka.proofs.strumelka_check_net.Tie as tie
@@ -13,7 +14,7 @@ checked-given-requires c κs =
     carry-fits checkedRow (sym (c .check-net .ensures)) (checked-fits (a .o) (a .k) (a .words .now))
 
 returns : tie.Need-returns
-returns c = carry-given checkedRow (sym (c .before .check-net .ensures)) (c .checked-given .ensures)
+returns c = carry-row checkedRow (sym (c .before .check-net .ensures)) (c .checked-given .ensures)
 
 pub strumelka-check-net-spec : {M : Type 1} → statement M
 strumelka-check-net-spec = tie.close (tie.spec (search needs) checked-given-requires returns)

@@ -2,7 +2,8 @@
 use mathlib.Core.Path.{sym, ap}
 use borrow.Author.Needs.{needs}
 use Rattle.clash.specs.Table.{Clash}
-use Rattle.library_row.proofs.Carrying.{carry-given, carry-fits}
+use Rattle.net.proofs.Rows.{carry-row}
+use Rattle.library_row.proofs.Fitting.{carry-fits}
 use Rattle.library_answer.proofs.Operations.{clashGives, clash-fits}
 use Rattle.strumelka.proofs.strumelka_clash.Statement.{statement}
 use Rattle.strumelka.proofs.strumelka_clash.Tie as tie
@@ -16,7 +17,7 @@ clashed-given-requires c κs =
 returns : tie.Need-returns
 returns c =
     let e = c .before .before .before .find-clash .ensures in
-    (carry-given clashGives (sym e) (c .clashed-given .ensures), ap (λ (t : Clash). t .marks) e)
+    (carry-row clashGives (sym e) (c .clashed-given .ensures), ap (λ (t : Clash). t .marks) e)
 
 pub strumelka-clash-spec : {M : Type 1} → statement M
 strumelka-clash-spec =

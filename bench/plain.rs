@@ -1,0 +1,320 @@
+//! The plain engine: the timed operations of the request in ordinary Rust. Its algorithms are the proved engine's, so that
+//! the two can be timed against each other: a scan is the marker machine, a command and a level of distances are one pass
+//! over the words each, and nothing is allocated.
+
+use crate::engine::{Answer, Engine};
+use crate::nets::{head_of, tail_of, WORD_LIMIT};
+
+const NODE_LIMIT: usize = 1024;
+const NO_WAY: u16 = 65_535;
+
+const T: u8 = 1;
+const F: u8 = 2;
+
+/// The functions of this file.
+pub const ENGINE: Engine = Engine {
+    check_net,
+    forward_scan,
+    question,
+    completion,
+    reason,
+};
+
+/// What an operation answers; a refusal leaves it early as an `Err`.
+type Outcome = Result<Answer, Answer>;
+
+fn refused<T>(number: u32) -> Result<T, Answer> {
+    Err(Answer::new(number, 0, 0))
+}
+
+/// The operation on the net, if that passes rows 1 to 3.
+fn on_net(o: u32, k: u32, words: &[u32], operation: impl FnOnce(&Net) -> Outcome) -> Answer {
+    match Net::checked(o, k, words).and_then(|net| operation(&net)) {
+        Ok(answer) | Err(answer) => answer,
+    }
+}
+
+fn check_net(o: u32, k: u32, words: &[u32]) -> Answer {
+    on_net(o, k, words, |net| Ok(Answer::new(0, net.nodes as u32, 0)))
+}
+
+fn forward_scan(
+    o: u32,
+    k: u32,
+    words: &[u32],
+    start: u32,
+    budget: u32,
+    marks: &mut [u8],
+) -> Answer {
+    on_net(o, k, words, |net| {
+        let x = net.node(start)?;
+        let (ended, count) = net.scan_forward(x, budget, net.places(1, marks)?);
+        Ok(Answer::new(if ended { 0 } else { 6 }, count, 0))
+    })
+}
+
+fn question(o: u32, k: u32, words: &[u32], x: u32, y: u32, marks: &mut [u8]) -> Answer {
+    on_net(o, k, words, |net| {
+        let (x, y) = (net.node(x)?, net.kind(y)?);
+        let marks = net.places(1, marks)?;
+        let count = net.scan_whole(x, marks);
+        Ok(Answer::new(0, marks[y] as u32, count))
+    })
+}
+
+fn completion(o: u32, k: u32, words: &[u32], marks: &mut [u8], list: &mut [u32]) -> Answer {
+    on_net(o, k, words, |net| {
+        let marks = net.places(1, marks)?;
+        let size = net.count_supported(marks);
+        if size <= list.len() {
+            net.write_supported(marks, list);
+        }
+        marks.fill(0);
+        Ok(Answer::new(
+            if size <= list.len() { 0 } else { 8 },
+            size as u32,
+            0,
+        ))
+    })
+}
+
+#[allow(clippy::too_many_arguments)]
+fn reason(
+    o: u32,
+    k: u32,
+    words: &[u32],
+    x: u32,
+    y: u32,
+    sign: u32,
+    scratch: &mut [u16],
+    list: &mut [u16],
+) -> Answer {
+    on_net(o, k, words, |net| {
+        let (x, y) = net.statement(x, y, sign)?;
+        let distances = net.places(2, scratch)?;
+        net.find_distances(y, sign, distances);
+        if distances[x] == NO_WAY {
+            return refused(7);
+        }
+        let size = 3 + distances[x] as usize;
+        if list.len() < size {
+            return Ok(Answer::new(8, size as u32, 0));
+        }
+        net.write_reason(x, sign, distances, &mut list[..size]);
+        Ok(Answer::new(0, size as u32, 0))
+    })
+}
+
+/// A net that passed rows 1 to 3.
+struct Net<'a> {
+    objects: usize,
+    nodes: usize,
+    words: &'a [u32],
+}
+
+impl<'a> Net<'a> {
+    fn checked(o: u32, k: u32, words: &'a [u32]) -> Result<Net<'a>, Answer> {
+        let objects = o as usize;
+        let nodes = objects + k as usize;
+        if nodes > NODE_LIMIT {
+            return refused(1);
+        }
+        if words.len() > WORD_LIMIT {
+            return refused(2);
+        }
+        let legal = |word: u32| tail_of(word) < nodes && (objects..nodes).contains(&head_of(word));
+        match words.iter().position(|&word| !legal(word)) {
+            Some(index) => Err(Answer::new(3, index as u32, 0)),
+            None => Ok(Net {
+                objects,
+                nodes,
+                words,
+            }),
+        }
+    }
+
+    fn is_kind(&self, y: usize) -> bool {
+        (self.objects..self.nodes).contains(&y)
+    }
+
+    /// A node, or row 4.
+    fn node(&self, x: u32) -> Result<usize, Answer> {
+        if (x as usize) < self.nodes {
+            Ok(x as usize)
+        } else {
+            refused(4)
+        }
+    }
+
+    /// A kind, or row 4.
+    fn kind(&self, y: u32) -> Result<usize, Answer> {
+        if self.is_kind(y as usize) {
+            Ok(y as usize)
+        } else {
+            refused(4)
+        }
+    }
+
+    /// The subject and the kind of a statement, or row 4.
+    fn statement(&self, x: u32, y: u32, sign: u32) -> Result<(usize, usize), Answer> {
+        if sign > 1 {
+            return refused(4);
+        }
+        Ok((self.node(x)?, self.kind(y)?))
+    }
+
+    /// The part of a lent buffer that has `each` places for every node, or row 5.
+    fn places<'b, T>(&self, each: usize, buffer: &'b mut [T]) -> Result<&'b mut [T], Answer> {
+        match buffer.get_mut(..each * self.nodes) {
+            Some(places) => Ok(places),
+            None => refused(5),
+        }
+    }
+
+    /// Rounds of the forward scan from `x` until one sets nothing, and whether that was within the budget.
+    fn scan_forward(&self, x: usize, budget: u32, marks: &mut [u8]) -> (bool, u32) {
+        marks.fill(0);
+        marks[x] = T;
+        run_rounds(budget, || {
+            command::<0, false, T, T>(self.words, marks)
+                | command::<0, true, F, F>(self.words, marks)
+                | command::<1, false, T, F>(self.words, marks)
+                | command::<1, true, T, F>(self.words, marks)
+        })
+    }
+
+    /// The forward scan with a budget that no net spends.
+    fn scan_whole(&self, x: usize, marks: &mut [u8]) -> u32 {
+        let (ended, count) = self.scan_forward(x, 2 * self.nodes as u32, marks);
+        assert!(ended, "a forward scan takes at most 2N rounds");
+        count
+    }
+
+    /// How many statements the net supports.
+    fn count_supported(&self, marks: &mut [u8]) -> usize {
+        let mut size = 0;
+        for x in 0..self.nodes {
+            self.scan_whole(x, marks);
+            let kinds = marks[self.objects..].iter();
+            size += kinds.map(|byte| byte.count_ones() as usize).sum::<usize>();
+        }
+        size
+    }
+
+    /// Their words into the front of the list, ascending.
+    fn write_supported(&self, marks: &mut [u8], list: &mut [u32]) {
+        let mut places = list.iter_mut();
+        let mut write = |word: usize| *places.next().expect("the words were counted") = word as u32;
+        for x in 0..self.nodes {
+            self.scan_whole(x, marks);
+            for y in self.objects..self.nodes {
+                if marks[y] & T != 0 {
+                    write(x * 2048 + y * 2);
+                }
+                if marks[y] & F != 0 {
+                    write(x * 2048 + y * 2 + 1);
+                }
+            }
+        }
+    }
+
+    /// The moves that a word gives a path of the sign asked. A node of the first part is the state of its own number,
+    /// a node of the second part stands N further on.
+    #[inline(always)]
+    fn moves(&self, sign: u32, word: u32, mut each: impl FnMut(usize, usize)) {
+        let (tail, head) = (tail_of(word), head_of(word));
+        match (sign, word % 2) {
+            (0, 0) => each(tail, head),
+            (0, _) => {}
+            (_, 0) => {
+                each(tail, head);
+                each(self.nodes + head, self.nodes + tail);
+            }
+            _ => {
+                each(tail, self.nodes + head);
+                each(head, self.nodes + tail);
+            }
+        }
+    }
+
+    /// The fewest links from each state to the end of a path to `y`, level by level.
+    fn find_distances(&self, y: usize, sign: u32, distances: &mut [u16]) {
+        distances.fill(NO_WAY);
+        distances[if sign == 0 { y } else { self.nodes + y }] = 0;
+        for level in 0.. {
+            let mut reached = false;
+            for &word in self.words {
+                self.moves(sign, word, |from, to| {
+                    if distances[to] == level && distances[from] == NO_WAY {
+                        distances[from] = level + 1;
+                        reached = true;
+                    }
+                });
+            }
+            if !reached {
+                return;
+            }
+        }
+    }
+
+    /// The smallest state, one link nearer to the end, that a move leads to from `state`.
+    fn next_state(&self, sign: u32, distances: &[u16], state: usize) -> usize {
+        let nearer = distances[state] - 1;
+        let mut best = usize::MAX;
+        for &word in self.words {
+            self.moves(sign, word, |from, to| {
+                if from == state && to < best && distances[to] == nearer {
+                    best = to;
+                }
+            });
+        }
+        best
+    }
+
+    /// The path from `x` that the distances lead along, into the whole list.
+    fn write_reason(&self, x: usize, sign: u32, distances: &[u16], list: &mut [u16]) {
+        list[..3].copy_from_slice(&[1, 0, x as u16]);
+        let mut state = x;
+        for at in 3..list.len() {
+            state = self.next_state(sign, distances, state);
+            list[state / self.nodes] += 1;
+            list[at] = (state % self.nodes) as u16;
+        }
+    }
+}
+
+/// One command: each link of the sign with TEST at the tail, or with UP at the head, puts PUT at its other end. The
+/// marks tested are those at the command's beginning. Whether a mark was set.
+fn command<const SIGN: u32, const UP: bool, const TEST: u8, const PUT: u8>(
+    words: &[u32],
+    marks: &mut [u8],
+) -> bool {
+    let mut old = [0; NODE_LIMIT];
+    old[..marks.len()].copy_from_slice(marks);
+    let mut set = false;
+    for &word in words {
+        if word % 2 != SIGN {
+            continue;
+        }
+        let (near, far) = if UP {
+            (head_of(word), tail_of(word))
+        } else {
+            (tail_of(word), head_of(word))
+        };
+        if old[near] & TEST != 0 && marks[far] & PUT == 0 {
+            marks[far] |= PUT;
+            set = true;
+        }
+    }
+    set
+}
+
+/// Rounds until one sets nothing or the budget is spent: whether the rounds ended, and how many were run.
+fn run_rounds(budget: u32, mut round: impl FnMut() -> bool) -> (bool, u32) {
+    for count in 1..=budget {
+        if !round() {
+            return (true, count);
+        }
+    }
+    (false, budget)
+}

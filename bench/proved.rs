@@ -1,0 +1,150 @@
+//! The proved engine: safe Rust functions over `include/strumelka.h`.
+//!
+//! Each slice is handed over as its pointer and its length, and a slice meets all that the header asks of a buffer:
+//! its pointer is never null and always aligned, and a `&mut` overlaps nothing. So no wrapper has anything to test.
+
+use crate::engine::{Answer, Engine};
+
+mod c {
+    use super::Answer;
+
+    extern "C" {
+        pub fn strumelka_check_net(o: u32, k: u32, words: *const u32, words_len: usize) -> Answer;
+        pub fn strumelka_forward_scan(
+            o: u32,
+            k: u32,
+            words: *const u32,
+            words_len: usize,
+            start: u32,
+            budget: u32,
+            marks: *mut u8,
+            marks_len: usize,
+        ) -> Answer;
+        pub fn strumelka_question(
+            o: u32,
+            k: u32,
+            words: *const u32,
+            words_len: usize,
+            x: u32,
+            y: u32,
+            marks: *mut u8,
+            marks_len: usize,
+        ) -> Answer;
+        pub fn strumelka_completion(
+            o: u32,
+            k: u32,
+            words: *const u32,
+            words_len: usize,
+            marks: *mut u8,
+            marks_len: usize,
+            list: *mut u32,
+            list_len: usize,
+        ) -> Answer;
+        pub fn strumelka_reason(
+            o: u32,
+            k: u32,
+            words: *const u32,
+            words_len: usize,
+            x: u32,
+            y: u32,
+            sign: u32,
+            scratch: *mut u16,
+            scratch_len: usize,
+            list: *mut u16,
+            list_len: usize,
+        ) -> Answer;
+    }
+}
+
+/// The functions of the archive.
+pub const ENGINE: Engine = Engine {
+    check_net,
+    forward_scan,
+    question,
+    completion,
+    reason,
+};
+
+fn check_net(o: u32, k: u32, words: &[u32]) -> Answer {
+    unsafe { c::strumelka_check_net(o, k, words.as_ptr(), words.len()) }
+}
+
+fn forward_scan(
+    o: u32,
+    k: u32,
+    words: &[u32],
+    start: u32,
+    budget: u32,
+    marks: &mut [u8],
+) -> Answer {
+    unsafe {
+        c::strumelka_forward_scan(
+            o,
+            k,
+            words.as_ptr(),
+            words.len(),
+            start,
+            budget,
+            marks.as_mut_ptr(),
+            marks.len(),
+        )
+    }
+}
+
+fn question(o: u32, k: u32, words: &[u32], x: u32, y: u32, marks: &mut [u8]) -> Answer {
+    unsafe {
+        c::strumelka_question(
+            o,
+            k,
+            words.as_ptr(),
+            words.len(),
+            x,
+            y,
+            marks.as_mut_ptr(),
+            marks.len(),
+        )
+    }
+}
+
+fn completion(o: u32, k: u32, words: &[u32], marks: &mut [u8], list: &mut [u32]) -> Answer {
+    unsafe {
+        c::strumelka_completion(
+            o,
+            k,
+            words.as_ptr(),
+            words.len(),
+            marks.as_mut_ptr(),
+            marks.len(),
+            list.as_mut_ptr(),
+            list.len(),
+        )
+    }
+}
+
+#[allow(clippy::too_many_arguments)]
+fn reason(
+    o: u32,
+    k: u32,
+    words: &[u32],
+    x: u32,
+    y: u32,
+    sign: u32,
+    scratch: &mut [u16],
+    list: &mut [u16],
+) -> Answer {
+    unsafe {
+        c::strumelka_reason(
+            o,
+            k,
+            words.as_ptr(),
+            words.len(),
+            x,
+            y,
+            sign,
+            scratch.as_mut_ptr(),
+            scratch.len(),
+            list.as_mut_ptr(),
+            list.len(),
+        )
+    }
+}

@@ -1,0 +1,40 @@
+-- What the reader gives is what its number table says, read from the top.
+use Prim.Native.Nat.{ℕ}
+use mathlib.Core.Path.{_≡_}
+use mathlib.Core.Bool.{true, false}
+use mathlib.Core.List.{List}
+use Rattle.net.specs.Lines.{call}
+use Rattle.netfile.specs.Contents.{contentsOf, noBodies, bodiesOf}
+use Rattle.netfile.specs.Table.{readFrom, malformed, wrongPlace, questionsAt, fileTable, fileDone}
+use Rattle.netfile.specs.declared.Contents.the-variants.{Bodies, Malformed}
+use Rattle.netfile.specs.Places.{Says}
+use Rattle.netfile.proofs.Places.{Outcome, size-wrong, first-wrong, second-wrong, third-wrong, nothing-wrong, outcome}
+
+module _ (s : List ℕ) where
+  -- Something is wrong: line 9 applies.
+  line-9 : {p : ℕ} → Says s (λ A wrong right. wrong p) → readFrom s ≡ call (fileTable s) (fileDone s)
+  line-9 {p} t =
+      let applies : malformed s ≡ true = t _ _ _ in
+      let place : wrongPlace s ≡ p = t _ _ _ in
+      let contents : contentsOf s ≡ Malformed p = t _ _ _ in
+      let bodies : bodiesOf s ≡ noBodies = t _ _ _ in
+      rw (applies, place, contents, bodies)
+
+  -- Nothing is: the reading is done.
+  no-line : {a e b f c g : ℕ} → Says s (λ A wrong right. right a e b f c g) → readFrom s ≡ call (fileTable s) (fileDone s)
+  no-line {c = c} t =
+      let applies : malformed s ≡ false = t _ _ _ in
+      let start : questionsAt s ≡ c = t _ _ _ in
+      let contents : contentsOf s ≡ Bodies c = t _ _ _ in
+      rw (applies, start, contents)
+
+  -- The file reader.
+  pub file-called : readFrom s ≡ call (fileTable s) (fileDone s)
+  file-called = at (outcome s)
+    where
+      at : Outcome s → readFrom s ≡ call (fileTable s) (fileDone s)
+      at (size-wrong h f) = line-9 f
+      at (first-wrong h x f) = line-9 f
+      at (second-wrong h x y f) = line-9 f
+      at (third-wrong h x y t f) = line-9 f
+      at (nothing-wrong h x y t f) = no-line f

@@ -1,0 +1,163 @@
+-- The number tables of the question, the reason and the reason check read aloud: each number in plain terms.
+use Prim.Native.Nat.{ℕ, _+_, _*_, _≤_, _<_}
+use mathlib.Core.Path.{_≡_, refl, sym, ap, subst, _∙_}
+use mathlib.Core.Bool.{false}
+use mathlib.Core.List.{List}
+use mathlib.Core.Logic.{_↔_}
+use native.Mathlib.Omega.{arith}
+use lib.Dec.{eqb, ltb}
+use lib.ListN.{length, getD}
+use borrow.Author.Tests.{ltb-true, lt-ltb}
+use Rattle.theory.specs.Words.{signAt}
+use Rattle.theory.specs.Nets.{Links, Net}
+use Rattle.theory.specs.Support.{Supported}
+use Rattle.theory.specs.Reasons.{written, never}
+use Rattle.theory.specs.Searches.{distances}
+use Rattle.theory.proofs.Inside.{legal-links}
+use Rattle.theory.proofs.Lemma1.{lemma1}
+use Rattle.theory.proofs.Repeats.{strict-shows}
+use Rattle.theory.proofs.Shortest.{shortest-unique}
+use Rattle.net.specs.Legal.{legalPrefix}
+use Rattle.net.specs.Good.{GoodPair, GoodStatement}
+use Rattle.net.proofs.NetCheck.{FirstIllegal}
+use Rattle.net.proofs.Good.{good-pair, good-statement, good-kind}
+use Rattle.question.specs.Table.{questioned}
+use Rattle.reason.specs.Table.{reasonOf, reasoned}
+use Rattle.reason_check.specs.Table.{verdict}
+use Rattle.promises.specs.Numbers.{questionNumber, reasonNumber, verdictNumber}
+use Rattle.promises.specs.Reasoning.{ReasonOf}
+use Rattle.promises.proofs.Demand1.{question-obeys, reason-obeys, check-obeys}
+use Rattle.promises.proofs.Tests.{line-4-pair, line-4-statement, line-5, line-5-scratch, supported-exactly, line-7-reason}
+use Rattle.promises.proofs.Plain.{then, and-then, both, first-only, at-least, over-net, past-net, number-1, number-2, number-3}
+use Rattle.promises.proofs.Reasoning.{reason-of}
+
+-- ── the question ──
+
+module _ (o k : ℕ) (ws : List ℕ) (x y : ℕ) (m : List ℕ) where
+  -- 1, 2 and 3 as in every table: too many nodes; too many words; a first illegal word.
+  pub question-1 : (questionNumber (questioned o k ws x y m) ≡ 1) ↔ (1024 < o + k)
+  question-1 = number-1 o k ws (question-obeys o k ws x y m)
+
+  pub question-2 : (questionNumber (questioned o k ws x y m) ≡ 2) ↔ ((o + k ≤ 1024) × (2097152 < length ws))
+  question-2 = number-2 o k ws (question-obeys o k ws x y m)
+
+  pub question-3 : (questionNumber (questioned o k ws x y m) ≡ 3)
+      ↔ ((o + k ≤ 1024) × ((length ws ≤ 2097152) × FirstIllegal o k ws (legalPrefix o (o + k) ws)))
+  question-3 = number-3 o k ws (question-obeys o k ws x y m)
+
+  -- 4: over a net, it is not so that x is a node and y a kind.
+  pub question-4 : (questionNumber (questioned o k ws x y m) ≡ 4) ↔ (Net o k ws × (GoodPair o (o + k) x y → ⊥))
+  question-4 = then (question-obeys o k ws x y m .exactly 4) (past-net o k ws (line-4-pair o k ws x y))
+
+  -- 5: over a net and of a node and a kind, the marks are too short.
+  pub question-5 : (questionNumber (questioned o k ws x y m) ≡ 5) ↔ (Net o k ws × (GoodPair o (o + k) x y × (length m < o + k)))
+  question-5 = then (question-obeys o k ws x y m .exactly 5) (past-net o k ws (both (good-pair o (o + k) x y) (line-5 o k ws m)))
+
+  -- 0: nothing is wrong.
+  pub question-0 : (questionNumber (questioned o k ws x y m) ≡ 0) ↔ (Net o k ws × (GoodPair o (o + k) x y × (o + k ≤ length m)))
+  question-0 =
+      then (question-obeys o k ws x y m .exactly 0)
+      (past-net o k ws (both (good-pair o (o + k) x y) (first-only (at-least (length m) (o + k)))))
+
+-- ── the reason ──
+
+module _ (o k : ℕ) (ws : List ℕ) (x y sign : ℕ) (d l : List ℕ) where
+  -- 1, 2 and 3 as in every table: too many nodes; too many words; a first illegal word.
+  pub reason-1 : (reasonNumber (reasoned o k ws x y sign d l) ≡ 1) ↔ (1024 < o + k)
+  reason-1 = number-1 o k ws (reason-obeys o k ws x y sign d l)
+
+  pub reason-2 : (reasonNumber (reasoned o k ws x y sign d l) ≡ 2) ↔ ((o + k ≤ 1024) × (2097152 < length ws))
+  reason-2 = number-2 o k ws (reason-obeys o k ws x y sign d l)
+
+  pub reason-3 : (reasonNumber (reasoned o k ws x y sign d l) ≡ 3)
+      ↔ ((o + k ≤ 1024) × ((length ws ≤ 2097152) × FirstIllegal o k ws (legalPrefix o (o + k) ws)))
+  reason-3 = number-3 o k ws (reason-obeys o k ws x y sign d l)
+
+  -- 4: over a net, it is not so that x is a node, y a kind, and the sign 0 or 1.
+  pub reason-4 : (reasonNumber (reasoned o k ws x y sign d l) ≡ 4) ↔ (Net o k ws × (GoodStatement o (o + k) x y sign → ⊥))
+  reason-4 = then (reason-obeys o k ws x y sign d l .exactly 4) (past-net o k ws (line-4-statement o k ws x y sign))
+
+  -- 5: over a net and of a good statement, the scratch has less than 2N places.
+  pub reason-5 : (reasonNumber (reasoned o k ws x y sign d l) ≡ 5) ↔ (Net o k ws × (GoodStatement o (o + k) x y sign × (length d < 2 * (o + k))))
+  reason-5 = then (reason-obeys o k ws x y sign d l .exactly 5) (past-net o k ws (both (good-statement o (o + k) x y sign) (line-5-scratch o k ws d)))
+
+  -- The scratch has 2N places.
+  room : (ltb (length d) ((o + k) + (o + k)) ≡ false) ↔ (2 * (o + k) ≤ length d)
+  room = then (at-least (length d) ((o + k) + (o + k))) ((λ h. omega arith), λ h. omega arith)
+
+  -- 7: nothing of that is wrong, and the statement is not supported.
+  pub reason-7 : (reasonNumber (reasoned o k ws x y sign d l) ≡ 7)
+      ↔ (Net o k ws × (GoodStatement o (o + k) x y sign × ((2 * (o + k) ≤ length d) × (Supported o k (Links ws) x y (signAt sign) → ⊥))))
+  reason-7 =
+      then (reason-obeys o k ws x y sign d l .exactly 7)
+      (over-net o k ws (λ net. and-then (good-statement o (o + k) x y sign)
+      (λ g. both room (line-7-reason o k ws net x (g .pair .node) y (good-kind (g .pair)) (signAt sign)))))
+
+  module _ (net : Net o k ws) (g : GoodStatement o (o + k) x y sign) where
+    -- No second number of places is the shortest reason's.
+    one-size : (a b : ℕ) → ReasonOf o k ws x y sign a → ReasonOf o k ws x y sign b → a ≡ b
+    one-size a b r q =
+        let (e, f) =
+        shortest-unique o k (Links ws) (legal-links o k ws (net .legal)) x (g .pair .node) y (good-kind (g .pair)) (signAt sign) (r .xs) (r .ys) (q .xs) (q .ys) (r .shortest)
+        (q .shortest) in
+        r .long ∙ ap (λ (v : List ℕ). length (written x v (r .ys))) e ∙ ap (λ (v : List ℕ). length (written x (q .xs) v)) f ∙ sym (q .long)
+
+    -- What has a reason is supported.
+    shown : (size : ℕ) → ReasonOf o k ws x y sign size → Supported o k (Links ws) x y (signAt sign)
+    shown size r =
+        lemma1 o k (Links ws) (legal-links o k ws (net .legal)) x y (signAt sign) .1
+        (r .xs, r .ys, strict-shows o k (Links ws) x y (signAt sign) (r .xs) (r .ys) (good-kind (g .pair)) (r .shortest .path))
+
+    -- Past line 7 there is a shortest reason, and its places are those of the reason computed.
+    has : (P : ℕ → Type 0) {D : Type 0} → D ↔ P (length (reasonOf ws x y sign (o + k)))
+        → ((eqb (getD (distances (o + k) (signAt sign) ws y) x never) never ≡ false) × D) ↔ ((size : ℕ) × ReasonOf o k ws x y sign size × P size)
+    has P {D} f = (there, back)
+      where
+        found : eqb (getD (distances (o + k) (signAt sign) ws y) x never) never ≡ false → ReasonOf o k ws x y sign (length (reasonOf ws x y sign (o + k)))
+        found e = reason-of o k ws x y sign net (g .pair .node) (good-kind (g .pair)) e _ refl .0
+
+        there : (eqb (getD (distances (o + k) (signAt sign) ws y) x never) never ≡ false) × D → ((size : ℕ) × ReasonOf o k ws x y sign size × P size)
+        there p = (length (reasonOf ws x y sign (o + k)), found (p .0), f .0 (p .1))
+
+        back : ((size : ℕ) × ReasonOf o k ws x y sign size × P size) → (eqb (getD (distances (o + k) (signAt sign) ws y) x never) never ≡ false) × D
+        back (size, r, p) =
+            let some = supported-exactly o k ws net x (g .pair .node) y (good-kind (g .pair)) (signAt sign) .1 (shown size r) in
+            (some, f .1 (subst P (one-size size _ r (found some)) p))
+
+  -- 8: there is a shortest reason, and as it is written it has more places than the list.
+  pub reason-8 : (reasonNumber (reasoned o k ws x y sign d l) ≡ 8)
+      ↔ (Net o k ws × (GoodStatement o (o + k) x y sign × ((2 * (o + k) ≤ length d) × ((size : ℕ) × ReasonOf o k ws x y sign size × (length l < size)))))
+  reason-8 =
+      then (reason-obeys o k ws x y sign d l .exactly 8)
+      (over-net o k ws (λ net. and-then (good-statement o (o + k) x y sign)
+      (λ g. both room (has net g (λ size. length l < size) (ltb-true (length l) _, lt-ltb (length l) _)))))
+
+  -- 0: there is one, and it has room.
+  pub reason-0 : (reasonNumber (reasoned o k ws x y sign d l) ≡ 0)
+      ↔ (Net o k ws × (GoodStatement o (o + k) x y sign × ((2 * (o + k) ≤ length d) × ((size : ℕ) × ReasonOf o k ws x y sign size × (size ≤ length l)))))
+  reason-0 =
+      then (reason-obeys o k ws x y sign d l .exactly 0)
+      (over-net o k ws (λ net. and-then (good-statement o (o + k) x y sign)
+      (λ g. both room (has net g (λ size. size ≤ length l) (first-only (at-least (length l) _))))))
+
+-- ── the reason check ──
+
+module _ (o k : ℕ) (ws : List ℕ) (x y sign : ℕ) (l : List ℕ) where
+  -- 1, 2 and 3 as in every table: too many nodes; too many words; a first illegal word.
+  pub check-1 : (verdictNumber (verdict o k ws x y sign l) ≡ 1) ↔ (1024 < o + k)
+  check-1 = number-1 o k ws (check-obeys o k ws x y sign l)
+
+  pub check-2 : (verdictNumber (verdict o k ws x y sign l) ≡ 2) ↔ ((o + k ≤ 1024) × (2097152 < length ws))
+  check-2 = number-2 o k ws (check-obeys o k ws x y sign l)
+
+  pub check-3 : (verdictNumber (verdict o k ws x y sign l) ≡ 3)
+      ↔ ((o + k ≤ 1024) × ((length ws ≤ 2097152) × FirstIllegal o k ws (legalPrefix o (o + k) ws)))
+  check-3 = number-3 o k ws (check-obeys o k ws x y sign l)
+
+  -- 4: over a net, it is not so that x is a node, y a kind, and the sign 0 or 1.
+  pub check-4 : (verdictNumber (verdict o k ws x y sign l) ≡ 4) ↔ (Net o k ws × (GoodStatement o (o + k) x y sign → ⊥))
+  check-4 = then (check-obeys o k ws x y sign l .exactly 4) (past-net o k ws (line-4-statement o k ws x y sign))
+
+  -- 0: nothing of that is wrong. Which lists hold and which fail is in `Reasoning`.
+  pub check-0 : (verdictNumber (verdict o k ws x y sign l) ≡ 0) ↔ (Net o k ws × GoodStatement o (o + k) x y sign)
+  check-0 = then (check-obeys o k ws x y sign l .exactly 0) (past-net o k ws (first-only (good-statement o (o + k) x y sign)))

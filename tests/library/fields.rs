@@ -1,0 +1,81 @@
+//! The kinds of fields that a case can have.
+
+#[derive(Clone, Copy, Debug, PartialEq, Eq)]
+pub enum Field {
+    Objects,
+    Kinds,
+    Words,
+    Node,
+    Kind,
+    Sign,
+    Budget,
+    Marks,
+    List,
+    Scratch,
+    Reason,
+    Path,
+    File,
+    Byte,
+}
+
+/// What is known of a kind of field.
+pub struct Shape {
+    name: &'static str,
+    field: Field,
+    /// The bytes of one number of its list; 0 where the field is a single number.
+    pub width: usize,
+    /// The most numbers that `readings` takes in its list.
+    pub most: usize,
+    /// Whether the list is lent to be written in, so that it is printed afterwards.
+    pub lent: bool,
+}
+
+const fn number(name: &'static str, field: Field) -> Shape {
+    shape(name, field, 0, 1, false)
+}
+
+const fn shape(name: &'static str, field: Field, width: usize, most: usize, lent: bool) -> Shape {
+    Shape {
+        name,
+        field,
+        width,
+        most,
+        lent,
+    }
+}
+
+static SHAPES: [Shape; 14] = [
+    number("o", Field::Objects),
+    number("k", Field::Kinds),
+    shape("words", Field::Words, 4, 16_384, false),
+    number("node", Field::Node),
+    number("kind", Field::Kind),
+    number("sign", Field::Sign),
+    number("budget", Field::Budget),
+    shape("marks", Field::Marks, 1, 2_048, true),
+    shape("list", Field::List, 4, 16_384, true),
+    shape("scratch", Field::Scratch, 2, 4_096, true),
+    shape("reason", Field::Reason, 2, 4_096, true),
+    shape("path", Field::Path, 2, 4_096, false),
+    shape("file", Field::File, 1, 32_769, false),
+    number("byte", Field::Byte),
+];
+
+impl Field {
+    /// The field of a name in the table of operations.
+    pub fn named(name: &str) -> Field {
+        let found = SHAPES.iter().find(|shape| shape.name == name);
+        found
+            .unwrap_or_else(|| panic!("no kind of field is called {}", name))
+            .field
+    }
+
+    pub fn shape(self) -> &'static Shape {
+        let found = SHAPES.iter().find(|shape| shape.field == self);
+        found.expect("every field has a shape")
+    }
+
+    pub fn is_list(self) -> bool {
+        self.shape().width > 0
+    }
+}

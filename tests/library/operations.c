@@ -1,0 +1,72 @@
+/* The operations that a case for `readings` can ask. Cases are drawn, read, run on the archive and printed by this table. The calls go
+ * through the header, so that its types and the order of parameters and of the answer's fields are tried with them. */
+#include <stdbool.h>
+
+#include "strumelka.h"
+
+/* A field of a case as it is handed over: a number, or a list and its length. */
+struct field {
+    uint32_t number;
+    void *list;
+    size_t length;
+};
+
+struct operation {
+    const char *name;
+    /* The kinds of its fields, in the order of the case and of the C parameters: fields.rs says what each is. */
+    const char *fields;
+    /* What a long run has to meet: a number of the table, or N=V for number N with the first value V. */
+    const char *outcomes;
+    /* Whether one of the engines works from every node for it, so that it is rarely drawn for a large net. */
+    bool from_every_node;
+    /* Calls it and takes its number and values; null where the archive does not have it. */
+    void (*call)(const struct field *fields, uint32_t answer[3]);
+};
+
+#define NUMBER(i) fields[i].number
+#define BYTES(i) (uint8_t *)fields[i].list, fields[i].length
+#define HALVES(i) (uint16_t *)fields[i].list, fields[i].length
+#define WORDS(i) (uint32_t *)fields[i].list, fields[i].length
+#define NET NUMBER(0), NUMBER(1), WORDS(2)
+
+/* Name, fields, outcomes, from every node; then the arguments of the C function. */
+#define EXPORTED(_)                                                                 \
+    _(check_net, "o k words", "0 1 2 3", false,                                     \
+      NET)                                                                          \
+    _(forward_scan, "o k words node budget marks", "0 1 2 3 4 5 6", false,          \
+      NET, NUMBER(3), NUMBER(4), BYTES(5))                                          \
+    _(kind_scan, "o k words kind budget marks", "0 1 2 3 4 5 6", false,             \
+      NET, NUMBER(3), NUMBER(4), BYTES(5))                                          \
+    _(question, "o k words node kind marks", "0=0 0=1 0=2 0=3 1 2 3 4 5", true,     \
+      NET, NUMBER(3), NUMBER(4), BYTES(5))                                          \
+    _(completion, "o k words marks list", "0 1 2 3 5 8", true,                      \
+      NET, BYTES(3), WORDS(4))                                                      \
+    _(clash, "o k words marks", "0 1 2 3 5 7", true,                                \
+      NET, BYTES(3))                                                                \
+    _(reason, "o k words node kind sign scratch reason", "0 1 2 3 4 5 7 8", false,  \
+      NET, NUMBER(3), NUMBER(4), NUMBER(5), HALVES(6), HALVES(7))                   \
+    _(reason_check, "o k words node kind sign path", "0=0 0=1 1 2 3 4", false,      \
+      NET, NUMBER(3), NUMBER(4), NUMBER(5), HALVES(6))
+
+static void take(struct strumelka_answer given, uint32_t answer[3])
+{
+    answer[0] = given.number;
+    answer[1] = given.first;
+    answer[2] = given.second;
+}
+
+#define CALL(name, kinds, outcomes, from_every_node, ...)                    \
+    static void call_##name(const struct field *fields, uint32_t answer[3])  \
+    {                                                                        \
+        take(strumelka_##name(__VA_ARGS__), answer);                         \
+    }
+EXPORTED(CALL)
+
+#define LINE(name, kinds, outcomes, from_every_node, ...) {#name, kinds, outcomes, from_every_node, call_##name},
+
+const struct operation operations[] = {
+    EXPORTED(LINE)
+    {"file", "file", "0 9=0 9=1 9=2 9=3", false, NULL},
+    {"ask", "file byte", "0", true, NULL},
+};
+const size_t operations_len = sizeof operations / sizeof operations[0];
