@@ -27,7 +27,7 @@ fn refused<T>(number: u32) -> Result<T, Answer> {
     Err(Answer::new(number, 0, 0))
 }
 
-/// The operation on the net, if that passes rows 1 to 3.
+/// The operation on the net, if that passes numbers 1 to 3.
 fn on_net(o: u32, k: u32, words: &[u32], operation: impl FnOnce(&Net) -> Outcome) -> Answer {
     match Net::checked(o, k, words).and_then(|net| operation(&net)) {
         Ok(answer) | Err(answer) => answer,
@@ -105,7 +105,7 @@ fn reason(
     })
 }
 
-/// A net that passed rows 1 to 3.
+/// A net that passed numbers 1 to 3.
 struct Net<'a> {
     objects: usize,
     nodes: usize,
@@ -137,7 +137,7 @@ impl<'a> Net<'a> {
         (self.objects..self.nodes).contains(&y)
     }
 
-    /// A node, or row 4.
+    /// A node, or number 4.
     fn node(&self, x: u32) -> Result<usize, Answer> {
         if (x as usize) < self.nodes {
             Ok(x as usize)
@@ -146,7 +146,7 @@ impl<'a> Net<'a> {
         }
     }
 
-    /// A kind, or row 4.
+    /// A kind, or number 4.
     fn kind(&self, y: u32) -> Result<usize, Answer> {
         if self.is_kind(y as usize) {
             Ok(y as usize)
@@ -155,7 +155,7 @@ impl<'a> Net<'a> {
         }
     }
 
-    /// The subject and the kind of a statement, or row 4.
+    /// The subject and the kind of a statement, or number 4.
     fn statement(&self, x: u32, y: u32, sign: u32) -> Result<(usize, usize), Answer> {
         if sign > 1 {
             return refused(4);
@@ -163,7 +163,7 @@ impl<'a> Net<'a> {
         Ok((self.node(x)?, self.kind(y)?))
     }
 
-    /// The part of a lent buffer that has `each` places for every node, or row 5.
+    /// The part of a lent buffer that has `each` places for every node, or number 5.
     fn places<'b, T>(&self, each: usize, buffer: &'b mut [T]) -> Result<&'b mut [T], Answer> {
         match buffer.get_mut(..each * self.nodes) {
             Some(places) => Ok(places),

@@ -4,7 +4,7 @@ use mathlib.Core.Path.{_≡_}
 use mathlib.Core.List.{List, [], _∷_, _++_, append-assoc}
 use native.Mathlib.Omega.{arith}
 use lib.ListN.{length, length-append}
-use Rattle.net.specs.Table.{Row, refusalRow}
+use Rattle.net.specs.Table.{Reply, refusalReply}
 use Rattle.net.specs.declared.Refusal.{Refusal}
 use Rattle.question.specs.declared.Answer.{Answer}
 use Rattle.question.specs.declared.Answer.the-variants.{None, Yes, No, Both}
@@ -26,7 +26,7 @@ word-of e = rw e
 pub done-fields : {q : Asked} {a : Answer} {count : ℕ} → q ≡ asked.Done a count → (answerWord a ++ 32 ∷ []) ++ (decimal count ++ 10 ∷ []) ≡ answerFields q
 done-fields {a = a} e = rw e (field-joins (answerWord a) _)
 
-pub refused-fields : {q : Asked} {r : Refusal} {given : Row} → q ≡ asked.Refused r → given ≡ refusalRow r
+pub refused-fields : {q : Asked} {r : Refusal} {given : Reply} → q ≡ asked.Refused r → given ≡ refusalReply r
     → (refusedWord ++ 32 ∷ []) ++ (decimal (given .number) ++ 10 ∷ []) ≡ answerFields q
 refused-fields e f = rw (e, f)
 
@@ -51,4 +51,4 @@ word-room a = simp length-append (omega (arith, word-size a))
 -- The end of a question's line takes at most 19.
 pub answer-room : (a : Asked) → length (answerFields a) ≤ 19
 answer-room (asked.Done a count) = simp length-append (omega (arith, word-size a, most-digits 10 count))
-answer-room (asked.Refused r) = simp length-append (omega (arith, most-digits 10 (refusalRow r .number)))
+answer-room (asked.Refused r) = simp length-append (omega (arith, most-digits 10 (refusalReply r .number)))

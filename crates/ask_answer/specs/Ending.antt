@@ -1,7 +1,7 @@
 -- The fields of a line, and those that end a question's.
 use Prim.Native.Nat.{ℕ, _+_}
 use mathlib.Core.List.{List, [], _∷_, _++_}
-use Rattle.net.specs.Table.{refusalRow}
+use Rattle.net.specs.Table.{refusalReply}
 use Rattle.text_field.specs.Decimal.{decimal}
 use Rattle.question.specs.declared.Answer.{Answer}
 use Rattle.question.specs.declared.Answer.the-variants.{None, Yes, No, Both}
@@ -29,4 +29,4 @@ answerWord Both = 98 ∷ 111 ∷ 116 ∷ 104 ∷ []
 -- What follows x and y in a question's line: the word and the count, or `refused` and the number.
 abbrev pub answerFields : Asked → List ℕ
 answerFields (asked.Done a count) = field (answerWord a) (lastField (decimal count))
-answerFields (asked.Refused r) = field refusedWord (lastField (decimal (refusalRow r .number)))
+answerFields (asked.Refused r) = field refusedWord (lastField (decimal (refusalReply r .number)))

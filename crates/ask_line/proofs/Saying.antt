@@ -8,9 +8,9 @@ use native.Mathlib.Omega.{arith}
 use borrow.Author.Tests.{eqb-false, ne-eqb}
 use lib.Dec.{eqb}
 use lib.ListN.{length, getD, drop}
-use Rattle.net.specs.Table.{refusalRow}
+use Rattle.net.specs.Table.{refusalReply}
 use Rattle.net.specs.declared.Refusal.{Refusal}
-use Rattle.net.proofs.Rows.{refusal-numbers}
+use Rattle.net.proofs.Replies.{refusal-numbers}
 use Rattle.question.specs.declared.Answer.{Answer}
 use Rattle.question.specs.declared.Answer.the-variants.{None, Yes, No, Both}
 use Rattle.question.specs.declared.Asked.{Asked}
@@ -74,15 +74,15 @@ end-done a b c d h k e =
     (sym (answer-of-word a) ∙ ap answerOf p ∙ answer-of-word b, last-number c d h k q)
 
 -- Or the number of a refusal.
-pub end-refused : (r s : Refusal) → answerFields (asked.Refused r) ≡ answerFields (asked.Refused s) → refusalRow r .number ≡ refusalRow s .number
+pub end-refused : (r s : Refusal) → answerFields (asked.Refused r) ≡ answerFields (asked.Refused s) → refusalReply r .number ≡ refusalReply s .number
 end-refused r s e =
-    let t = split 32 refusedWord refusedWord (lastField (decimal (refusalRow r .number))) (lastField (decimal (refusalRow s .number))) refused-free refused-free e in
-    last-number (refusalRow r .number) (refusalRow s .number) (omega (arith, refusal-numbers r)) (omega (arith, refusal-numbers s)) (t .1)
+    let t = split 32 refusedWord refusedWord (lastField (decimal (refusalReply r .number))) (lastField (decimal (refusalReply s .number))) refused-free refused-free e in
+    last-number (refusalReply r .number) (refusalReply s .number) (omega (arith, refusal-numbers r)) (omega (arith, refusal-numbers s)) (t .1)
 
 -- And which of the two it says.
 pub end-differs : (a : Answer) (c : ℕ) (r : Refusal) → answerFields (asked.Done a c) ≡ answerFields (asked.Refused r) → ⊥
 end-differs a c r e =
-    let t = split 32 (answerWord a) refusedWord (lastField (decimal c)) (lastField (decimal (refusalRow r .number))) (word-free a) refused-free e in
+    let t = split 32 (answerWord a) refusedWord (lastField (decimal c)) (lastField (decimal (refusalReply r .number))) (word-free a) refused-free e in
     omega (arith, ap length (t .0), word-size a)
 
 -- A line says x, y and its end.

@@ -14,7 +14,7 @@ use Rattle.question.specs.Table.{questioned}
 use Rattle.question.specs.declared.Asked.{Asked}
 use Rattle.netfile_numbers.specs.Bytes.{u16At}
 use Rattle.ask_line.specs.Line.{lineOf}
-use Rattle.ask_net.specs.Replies.{linesOf}
+use Rattle.ask_net.specs.Lines.{linesOf}
 
 module _ (o k : ℕ) (ws : List ℕ) where
   -- The line of the question at the byte i of a body.

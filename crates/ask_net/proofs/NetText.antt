@@ -3,14 +3,14 @@ use Prim.Native.Nat.{ℕ, _/_}
 use mathlib.Core.Path.{_≡_}
 use mathlib.Core.List.{List}
 use lib.ListN.{length}
-use Rattle.net.specs.Table.{Row, checkNet, refusalRow}
+use Rattle.net.specs.Table.{Reply, checkNet, refusalReply}
 use Rattle.net.specs.declared.Refusal.{Refusal}
 use Rattle.net.specs.declared.Checked.{Checked}
 use Rattle.net.specs.declared.Checked.the-variants as checked
 use Rattle.text_field.specs.Decimal.{decimal}
 use Rattle.ask_answer.specs.Ending.{field, lastField}
 use Rattle.ask_line.specs.Line.{netWord}
-use Rattle.ask_net.specs.Replies.{linesOf, netText}
+use Rattle.ask_net.specs.Lines.{linesOf, netText}
 
 module _ (o k : ℕ) (ws : List ℕ) {c : Checked} (e : c ≡ checkNet o k ws) where
   -- A net that is not refused has a line for each question,
@@ -19,7 +19,7 @@ module _ (o k : ℕ) (ws : List ℕ) {c : Checked} (e : c ≡ checkNet o k ws) w
   net-lines b f = rw (← e, f)
 
   -- and a refused one its number and index.
-  pub net-report : (b : List ℕ) {r : Refusal} {given : Row} → c ≡ checked.Refused r → given ≡ refusalRow r
+  pub net-report : (b : List ℕ) {r : Refusal} {given : Reply} → c ≡ checked.Refused r → given ≡ refusalReply r
       → field netWord (field (decimal (given .number)) (lastField (decimal (given .first)))) ≡ netText o k ws b (checkNet o k ws)
   unfolding netText
   net-report b f g = rw (← e, f, g)

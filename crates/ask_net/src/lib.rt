@@ -3,7 +3,7 @@ ghost use Prim.Native.Nat.{_*_, _/_, _≤_};
 ghost use lib.ListN.{length};
 ghost use Rattle.text_field.specs.Writing.{Wrote};
 ghost use Rattle.net.specs.Table.{checkNet};
-ghost use Rattle.ask_net.specs.Replies.{linesOf, netText};
+ghost use Rattle.ask_net.specs.Lines.{linesOf, netText};
 use ask_line::put_line;
 use ask_line::put_report;
 use net::Checked;

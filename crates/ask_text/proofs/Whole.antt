@@ -18,7 +18,7 @@ use Rattle.netfile.proofs.Stretches.{stretches}
 use Rattle.text_field.specs.Decimal.{decimal}
 use Rattle.ask_answer.specs.Ending.{field, lastField}
 use Rattle.ask_line.specs.Line.{fileWord}
-use Rattle.ask_net.specs.Replies.{netText}
+use Rattle.ask_net.specs.Lines.{netText}
 use Rattle.ask_text.specs.Text.{bodiesText, textOf}
 
 -- The words are what was read into the front of the place for them.

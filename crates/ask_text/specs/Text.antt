@@ -4,9 +4,9 @@ use mathlib.Core.List.{List}
 use lib.ListN.{length}
 use Rattle.net.specs.Table.{checkNet}
 use Rattle.netfile_numbers.specs.Bytes.{u32At, u32s}
-use Rattle.netfile.specs.Contents.{contentsRow, entriesOf, stretch}
+use Rattle.netfile.specs.Contents.{contentsReply, entriesOf, stretch}
 use Rattle.netfile.specs.declared.Contents.the-variants.{Malformed}
-use Rattle.ask_net.specs.Replies.{netText}
+use Rattle.ask_net.specs.Lines.{netText}
 use Rattle.text_field.specs.Decimal.{decimal}
 use Rattle.ask_answer.specs.Ending.{field, lastField}
 use Rattle.ask_line.specs.Line.{fileWord}
@@ -19,7 +19,7 @@ bodiesText nodes words questions =
 
 -- The text for a malformed one: its number and the place.
 abbrev pub fileReport : ℕ → List ℕ
-fileReport place = field fileWord (field (decimal (contentsRow (Malformed place) .number)) (lastField (decimal (contentsRow (Malformed place) .first))))
+fileReport place = field fileWord (field (decimal (contentsReply (Malformed place) .number)) (lastField (decimal (contentsReply (Malformed place) .first))))
 
 -- All that `ask` prints for a file, whose bodies are the stretches between each entry's start and end.
 unfoldable pub textOf : List ℕ → List ℕ

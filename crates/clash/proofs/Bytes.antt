@@ -7,7 +7,7 @@ use native.Mathlib.Omega.{arith}
 use native.Mathlib.Numerals.{add-one}
 use lib.ListN.{getD}
 use Rattle.theory.specs.Marks.{saysYes, saysNo}
-use Rattle.theory.proofs.Bytes.{has-T, no-T, has-F, no-F}
+use Rattle.theory.proofs.machine.Bytes.{has-T, no-T, has-F, no-F}
 use Rattle.clash.specs.Table.{firstBoth}
 
 module _ (b : ℕ) where

@@ -1,5 +1,5 @@
 pub mod Bytes
 pub mod Search
 pub mod Outcomes
-pub mod ClashRows
+pub mod Replies
 pub mod Readings

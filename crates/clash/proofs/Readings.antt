@@ -7,7 +7,7 @@ use Rattle.theory.specs.Scans.{same, rounds}
 use Rattle.theory.specs.NetM.{M}
 use Rattle.net.specs.Legal.{legalPrefix}
 use Rattle.net.specs.declared.Refusal.the-variants.{ShortBuffer}
-use Rattle.clash.specs.Table.{clash, firstBoth, firstClash, clashedBy}
+use Rattle.clash.specs.Table.{clashOutcome, firstBoth, firstClash, clashedBy}
 use Rattle.clash.specs.declared.Clashed.the-variants as clashed
 
 -- Eight bytes that a caller may have left.
@@ -15,29 +15,29 @@ abbrev left : List ℕ
 left = 255 ∷ 7 ∷ 9 ∷ 3 ∷ 1 ∷ 128 ∷ 200 ∷ 201 ∷ []
 
 -- An object that is and is not a kind clashes there.
-pub clash-0-1 : clashedBy 1 2 (2 ∷ 3 ∷ []) (9 ∷ 9 ∷ 9 ∷ 77 ∷ 78 ∷ []) ≡ clash (clashed.At 0 1) (0 ∷ 0 ∷ 0 ∷ 77 ∷ 78 ∷ [])
+pub clash-0-1 : clashedBy 1 2 (2 ∷ 3 ∷ []) (9 ∷ 9 ∷ 9 ∷ 77 ∷ 78 ∷ []) ≡ clashOutcome (clashed.At 0 1) (0 ∷ 0 ∷ 0 ∷ 77 ∷ 78 ∷ [])
 unfolding firstClash firstBoth legalPrefix rounds same round command links link mark
 clash-0-1 = refl
 
 -- Net M has no clash, and a kind that is not itself is none.
-pub clash-M : clashedBy 2 4 M left ≡ clash clashed.Nowhere (0 ∷ 0 ∷ 0 ∷ 0 ∷ 0 ∷ 0 ∷ 200 ∷ 201 ∷ [])
+pub clash-M : clashedBy 2 4 M left ≡ clashOutcome clashed.Nowhere (0 ∷ 0 ∷ 0 ∷ 0 ∷ 0 ∷ 0 ∷ 200 ∷ 201 ∷ [])
 unfolding firstClash firstBoth legalPrefix rounds same round command links link mark
 clash-M = refl
 
-pub clash-kind : clashedBy 0 1 (1 ∷ []) (255 ∷ 254 ∷ []) ≡ clash clashed.Nowhere (0 ∷ 254 ∷ [])
+pub clash-kind : clashedBy 0 1 (1 ∷ []) (255 ∷ 254 ∷ []) ≡ clashOutcome clashed.Nowhere (0 ∷ 254 ∷ [])
 unfolding firstClash firstBoth legalPrefix rounds same round command links link mark
 clash-kind = refl
 
 -- The smallest object and then its smallest kind: 1 clashes at 3 and 4, and so does 2.
-pub clash-smallest : clashedBy 3 2 (2054 ∷ 2055 ∷ 2056 ∷ 2057 ∷ 4102 ∷ 4103 ∷ []) (1 ∷ 2 ∷ 3 ∷ 4 ∷ 5 ∷ 6 ∷ []) ≡ clash (clashed.At 1 3) (0 ∷ 0 ∷ 0 ∷ 0 ∷ 0 ∷ 6 ∷ [])
+pub clash-smallest : clashedBy 3 2 (2054 ∷ 2055 ∷ 2056 ∷ 2057 ∷ 4102 ∷ 4103 ∷ []) (1 ∷ 2 ∷ 3 ∷ 4 ∷ 5 ∷ 6 ∷ []) ≡ clashOutcome (clashed.At 1 3) (0 ∷ 0 ∷ 0 ∷ 0 ∷ 0 ∷ 6 ∷ [])
 unfolding firstClash firstBoth legalPrefix rounds same round command links link mark
 clash-smallest = refl
 
--- A byte too few is row 5; no nodes need none.
-pub clash-short : clashedBy 1 2 (2 ∷ 3 ∷ []) (9 ∷ 9 ∷ []) ≡ clash (clashed.Refused ShortBuffer) (9 ∷ 9 ∷ [])
+-- A byte too few is number 5; no nodes need none.
+pub clash-short : clashedBy 1 2 (2 ∷ 3 ∷ []) (9 ∷ 9 ∷ []) ≡ clashOutcome (clashed.Refused ShortBuffer) (9 ∷ 9 ∷ [])
 unfolding firstClash firstBoth legalPrefix rounds same round command links link mark
 clash-short = refl
 
-pub clash-empty : clashedBy 0 0 [] (9 ∷ []) ≡ clash clashed.Nowhere (9 ∷ [])
+pub clash-empty : clashedBy 0 0 [] (9 ∷ []) ≡ clashOutcome clashed.Nowhere (9 ∷ [])
 unfolding firstClash firstBoth legalPrefix rounds same round command links link mark
 clash-empty = refl

@@ -6,20 +6,20 @@ use lib.Dec.{ltb}
 use lib.ListN.{length, getD}
 use Rattle.theory.specs.Marks.{saysYes, saysNo}
 use Rattle.theory.specs.Completion.{fullMarks}
-use Rattle.net.specs.Lines.{Line, line, call}
-use Rattle.net.specs.Table.{netLines, Row, row, refusalRow}
+use Rattle.net.specs.Clauses.{Clause, clause, call}
+use Rattle.net.specs.Table.{netClauses, Reply, reply, refusalReply}
 use Rattle.net.specs.declared.Refusal.the-variants.{ShortBuffer}
 use Rattle.scan_start.specs.Starts.{cleared}
 use Rattle.clash.specs.declared.Clashed.{Clashed}
 use Rattle.clash.specs.declared.Clashed.the-variants as clashed
 
--- What a clash test leaves: its answer and the marks.
-pub record Clash : Type 0 where
+-- The outcome of a clash test: its answer and the marks.
+pub record ClashOutcome : Type 0 where
   pub answer : Clashed
   pub marks : List ℕ
 
-abbrev pub clash : Clashed → List ℕ → Clash
-clash r m = record { answer = r; marks = m }
+abbrev pub clashOutcome : Clashed → List ℕ → ClashOutcome
+clashOutcome r m = record { answer = r; marks = m }
 
 -- The nodes that can clash: those below this number, the objects.
 abbrev pub clashNodes : ℕ → ℕ → ℕ
@@ -47,26 +47,26 @@ nowhere (clashed.At x y) = false
 nowhere clashed.Nowhere = true
 nowhere (clashed.Refused r) = false
 
--- Lines 5 and 7 on n nodes whose search came to `found`.
-abbrev pub clashLines : Clashed → List ℕ → ℕ → List (Line Clash)
-clashLines found m n =
-    line 5 (ltb (length m) n) (clash (clashed.Refused ShortBuffer) m)
-    ∷ line 7 (nowhere found) (clash clashed.Nowhere (cleared n m))
+-- Clauses 5 and 7 on n nodes whose search came to `found`.
+abbrev pub clashClauses : Clashed → List ℕ → ℕ → List (Clause ClashOutcome)
+clashClauses found m n =
+    clause 5 (ltb (length m) n) (clashOutcome (clashed.Refused ShortBuffer) m)
+    ∷ clause 7 (nowhere found) (clashOutcome clashed.Nowhere (cleared n m))
     ∷ []
 
--- Line 0: the clash that was found, and the marks of the nodes zero.
-abbrev pub clashDone : Clashed → List ℕ → ℕ → Clash
-clashDone found m n = clash found (cleared n m)
+-- Number 0: the clash that was found, and the marks of the nodes zero.
+abbrev pub clashDone : Clashed → List ℕ → ℕ → ClashOutcome
+clashDone found m n = clashOutcome found (cleared n m)
 
-abbrev pub clashTable : ℕ → ℕ → List ℕ → List ℕ → List (Line Clash)
-clashTable o k ws m = netLines (λ r. clash (clashed.Refused r) m) o k ws (clashLines (clashSearch o k ws) m (o + k))
+abbrev pub clashTable : ℕ → ℕ → List ℕ → List ℕ → List (Clause ClashOutcome)
+clashTable o k ws m = netClauses (λ r. clashOutcome (clashed.Refused r) m) o k ws (clashClauses (clashSearch o k ws) m (o + k))
 
 -- The clash test of a net.
-abbrev pub clashedBy : ℕ → ℕ → List ℕ → List ℕ → Clash
+abbrev pub clashedBy : ℕ → ℕ → List ℕ → List ℕ → ClashOutcome
 clashedBy o k ws m = call (clashTable o k ws m) (clashDone (clashSearch o k ws) m (o + k))
 
 -- The paper's number and values for each answer.
-abbrev pub clashedRow : Clashed → Row
-clashedRow (clashed.At x y) = row 0 x y
-clashedRow clashed.Nowhere = row 7 0 0
-clashedRow (clashed.Refused r) = refusalRow r
+abbrev pub clashedReply : Clashed → Reply
+clashedReply (clashed.At x y) = reply 0 x y
+clashedReply clashed.Nowhere = reply 7 0 0
+clashedReply (clashed.Refused r) = refusalReply r

@@ -3,15 +3,15 @@ ghost use mathlib.Core.Path.{_≡_};
 ghost use Prim.Native.Nat.{_+_, _-_, _≤_};
 ghost use lib.ListN.{length, drop};
 ghost use Rattle.theory.specs.Nets.{Net};
-ghost use Rattle.clash.specs.Table.{clash, firstBoth, clashSearch, clashLines, clashDone, clashedBy};
-ghost use Rattle.net.specs.Lines.{call};
+ghost use Rattle.clash.specs.Table.{clashOutcome, firstBoth, clashSearch, clashClauses, clashDone, clashedBy};
+ghost use Rattle.net.specs.Clauses.{call};
 use net::Checked;
 use net::Refusal;
 use net::check_net;
 use question::full_scan;
 use scan_start::clear;
 
-// What a clash test answers: the smallest node that clashes and its smallest kind, or that there is none (row 7), or a refusal.
+// What a clash test answers: the smallest node that clashes and its smallest kind, or that there is none (number 7), or a refusal.
 pub enum Clashed {
     At(usize, usize),
     Nowhere,
@@ -56,11 +56,11 @@ fn search_clash(o: u32, k: u32, n: usize, words: &[u32], marks: &mut [u8]) -> Cl
     Clashed::Nowhere
 }
 
-// Rows 5, 7 and 0, on a net that was checked.
+// Numbers 5, 7 and 0, on a net that was checked.
 fn clash_net(o: u32, k: u32, n: usize, words: &[u32], marks: &mut [u8]) -> Clashed
     requires net { ⌜ Net o k (now words) ⌝ }
     requires size { ⌜ n ≡ o + k ⌝ }
-    ensures { λ r. ⌜ clash r (now (marks .exit)) ≡ call (clashLines (clashSearch o k (now (words .entry))) (now (marks .entry)) n) (clashDone (clashSearch o k (now (words .entry))) (now (marks .entry)) n) ⌝ }
+    ensures { λ r. ⌜ clashOutcome r (now (marks .exit)) ≡ call (clashClauses (clashSearch o k (now (words .entry))) (now (marks .entry)) n) (clashDone (clashSearch o k (now (words .entry))) (now (marks .entry)) n) ⌝ }
 {
     if marks.len() < n {
         return Clashed::Refused(Refusal::ShortBuffer);
@@ -72,7 +72,7 @@ fn clash_net(o: u32, k: u32, n: usize, words: &[u32], marks: &mut [u8]) -> Clash
 
 // Whether some object has both marks at some kind.
 pub fn find_clash(o: u32, k: u32, words: &[u32], marks: &mut [u8]) -> Clashed
-    ensures { λ r. ⌜ clash r (now (marks .exit)) ≡ clashedBy o k (now (words .entry)) (now (marks .entry)) ⌝ }
+    ensures { λ r. ⌜ clashOutcome r (now (marks .exit)) ≡ clashedBy o k (now (words .entry)) (now (marks .entry)) ⌝ }
 {
     let net = check_net(o, k, words);
     match net {

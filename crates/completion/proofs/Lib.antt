@@ -1,3 +1,3 @@
 pub mod Outcomes
-pub mod CompletionRows
+pub mod Replies
 pub mod Readings

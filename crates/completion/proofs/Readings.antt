@@ -8,7 +8,7 @@ use Rattle.theory.specs.Completion.{row, rows, complete}
 use Rattle.theory.specs.NetM.{M}
 use Rattle.net.specs.Legal.{legalPrefix}
 use Rattle.net.specs.declared.Refusal.the-variants.{TooManyNodes, IllegalWord, ShortBuffer}
-use Rattle.completion.specs.Table.{completion, completedBy}
+use Rattle.completion.specs.Table.{completionOutcome, completedBy}
 use Rattle.completion.specs.declared.Completed.the-variants.{Done, Short, Refused}
 
 -- The words of net M's completed list.
@@ -22,45 +22,45 @@ left = 1 ∷ 2 ∷ 3 ∷ 4 ∷ 5 ∷ 6 ∷ 7 ∷ 8 ∷ 9 ∷ 10 ∷ 11 ∷ 12 �
 
 -- Net M: 21 words, and the two places past them are kept.
 pub complete-M : completedBy 2 4 M (255 ∷ 7 ∷ 9 ∷ 3 ∷ 1 ∷ 128 ∷ 200 ∷ []) (left ++ 21 ∷ 22 ∷ 23 ∷ [])
-    ≡ completion (Done 21) (0 ∷ 0 ∷ 0 ∷ 0 ∷ 0 ∷ 0 ∷ 200 ∷ []) (completedM ++ 22 ∷ 23 ∷ [])
+    ≡ completionOutcome (Done 21) (0 ∷ 0 ∷ 0 ∷ 0 ∷ 0 ∷ 0 ∷ 200 ∷ []) (completedM ++ 22 ∷ 23 ∷ [])
 unfolding complete rows row legalPrefix rounds same round command links link mark
 complete-M = refl
 
 -- Completing that list gives it back.
 pub complete-M-again : completedBy 2 4 completedM (255 ∷ 7 ∷ 9 ∷ 3 ∷ 1 ∷ 128 ∷ 200 ∷ []) (left ++ 21 ∷ 22 ∷ 23 ∷ [])
-    ≡ completion (Done 21) (0 ∷ 0 ∷ 0 ∷ 0 ∷ 0 ∷ 0 ∷ 200 ∷ []) (completedM ++ 22 ∷ 23 ∷ [])
+    ≡ completionOutcome (Done 21) (0 ∷ 0 ∷ 0 ∷ 0 ∷ 0 ∷ 0 ∷ 200 ∷ []) (completedM ++ 22 ∷ 23 ∷ [])
 unfolding complete rows row legalPrefix rounds same round command links link mark
 complete-M-again = refl
 
--- A place too few is row 8: the list is unchanged and the marks are zero.
-pub complete-M-short : completedBy 2 4 M (255 ∷ 7 ∷ 9 ∷ 3 ∷ 1 ∷ 128 ∷ 200 ∷ []) left ≡ completion (Short 21) (0 ∷ 0 ∷ 0 ∷ 0 ∷ 0 ∷ 0 ∷ 200 ∷ []) left
+-- A place too few is number 8: the list is unchanged and the marks are zero.
+pub complete-M-short : completedBy 2 4 M (255 ∷ 7 ∷ 9 ∷ 3 ∷ 1 ∷ 128 ∷ 200 ∷ []) left ≡ completionOutcome (Short 21) (0 ∷ 0 ∷ 0 ∷ 0 ∷ 0 ∷ 0 ∷ 200 ∷ []) left
 unfolding complete rows row legalPrefix rounds same round command links link mark
 complete-M-short = refl
 
 -- A kind that is not itself, and a kind without links.
-pub complete-not-itself : completedBy 0 1 (1 ∷ []) (9 ∷ []) (7 ∷ 8 ∷ []) ≡ completion (Done 2) (0 ∷ []) (0 ∷ 1 ∷ [])
+pub complete-not-itself : completedBy 0 1 (1 ∷ []) (9 ∷ []) (7 ∷ 8 ∷ []) ≡ completionOutcome (Done 2) (0 ∷ []) (0 ∷ 1 ∷ [])
 unfolding complete rows row legalPrefix rounds same round command links link mark
 complete-not-itself = refl
 
-pub complete-no-links : completedBy 0 1 [] (9 ∷ []) (7 ∷ 8 ∷ []) ≡ completion (Done 1) (0 ∷ []) (0 ∷ 8 ∷ [])
+pub complete-no-links : completedBy 0 1 [] (9 ∷ []) (7 ∷ 8 ∷ []) ≡ completionOutcome (Done 1) (0 ∷ []) (0 ∷ 8 ∷ [])
 unfolding complete rows row legalPrefix rounds same round command links link mark
 complete-no-links = refl
 
 -- No nodes: no words, and nothing is touched.
-pub complete-empty : completedBy 0 0 [] (9 ∷ []) (7 ∷ []) ≡ completion (Done 0) (9 ∷ []) (7 ∷ [])
+pub complete-empty : completedBy 0 0 [] (9 ∷ []) (7 ∷ []) ≡ completionOutcome (Done 0) (9 ∷ []) (7 ∷ [])
 unfolding complete rows row legalPrefix rounds same round command links link mark
 complete-empty = refl
 
--- A byte too few is row 5, before row 8.
-pub complete-unmarked : completedBy 2 4 M (255 ∷ 7 ∷ 9 ∷ 3 ∷ 1 ∷ []) [] ≡ completion (Refused ShortBuffer) (255 ∷ 7 ∷ 9 ∷ 3 ∷ 1 ∷ []) []
+-- A byte too few is number 5, before number 8.
+pub complete-unmarked : completedBy 2 4 M (255 ∷ 7 ∷ 9 ∷ 3 ∷ 1 ∷ []) [] ≡ completionOutcome (Refused ShortBuffer) (255 ∷ 7 ∷ 9 ∷ 3 ∷ 1 ∷ []) []
 unfolding complete rows row legalPrefix rounds same round command links link mark
 complete-unmarked = refl
 
--- Rows 1 and 3.
-pub complete-many : completedBy 4294967295 1 [] [] (7 ∷ []) ≡ completion (Refused TooManyNodes) [] (7 ∷ [])
+-- Numbers 1 and 3.
+pub complete-many : completedBy 4294967295 1 [] [] (7 ∷ []) ≡ completionOutcome (Refused TooManyNodes) [] (7 ∷ [])
 unfolding complete rows row legalPrefix rounds same round command links link mark
 complete-many = refl
 
-pub complete-illegal : completedBy 1 1 (2 ∷ 0 ∷ []) [] (7 ∷ []) ≡ completion (Refused (IllegalWord 1)) [] (7 ∷ [])
+pub complete-illegal : completedBy 1 1 (2 ∷ 0 ∷ []) [] (7 ∷ []) ≡ completionOutcome (Refused (IllegalWord 1)) [] (7 ∷ [])
 unfolding complete rows row legalPrefix rounds same round command links link mark
 complete-illegal = refl

@@ -3,8 +3,8 @@ ghost use mathlib.Core.Path.{_≡_};
 ghost use Prim.Native.Nat.{_+_};
 ghost use Rattle.theory.specs.Nets.{Net};
 ghost use Rattle.theory.specs.Completion.{complete};
-ghost use Rattle.completion.specs.Table.{completion, completionLines, completionDone, completedBy};
-ghost use Rattle.net.specs.Lines.{call};
+ghost use Rattle.completion.specs.Table.{completionOutcome, completionClauses, completionDone, completedBy};
+ghost use Rattle.net.specs.Clauses.{call};
 use completion_list::count_rows;
 use completion_list::write_rows;
 use net::Checked;
@@ -12,14 +12,14 @@ use net::Refusal;
 use net::check_net;
 use scan_start::clear;
 
-// What a completion answers: how many words it wrote, or how many the list would need (row 8), or a refusal.
+// What a completion answers: how many words it wrote, or how many the list would need (number 8), or a refusal.
 pub enum Completed {
     Done(usize),
     Short(usize),
     Refused(Refusal),
 }
 
-// Rows 5, 8 and 0, on a net that was checked.
+// Numbers 5, 8 and 0, on a net that was checked.
 fn complete_checked(
     o: u32,
     k: u32,
@@ -30,7 +30,7 @@ fn complete_checked(
 ) -> Completed
     requires net { ⌜ Net o k (now words) ⌝ }
     requires size { ⌜ n ≡ o + k ⌝ }
-    ensures { λ r. ⌜ completion r (now (marks .exit)) (now (list .exit)) ≡ call (completionLines (complete o k (now (words .entry))) (now (marks .entry)) (now (list .entry)) n) (completionDone (complete o k (now (words .entry))) (now (marks .entry)) (now (list .entry)) n) ⌝ }
+    ensures { λ r. ⌜ completionOutcome r (now (marks .exit)) (now (list .exit)) ≡ call (completionClauses (complete o k (now (words .entry))) (now (marks .entry)) (now (list .entry)) n) (completionDone (complete o k (now (words .entry))) (now (marks .entry)) (now (list .entry)) n) ⌝ }
 {
     if marks.len() < n {
         return Completed::Refused(Refusal::ShortBuffer);
@@ -47,7 +47,7 @@ fn complete_checked(
 
 // The completion of a net.
 pub fn complete_net(o: u32, k: u32, words: &[u32], marks: &mut [u8], list: &mut [u32]) -> Completed
-    ensures { λ r. ⌜ completion r (now (marks .exit)) (now (list .exit)) ≡ completedBy o k (now (words .entry)) (now (marks .entry)) (now (list .entry)) ⌝ }
+    ensures { λ r. ⌜ completionOutcome r (now (marks .exit)) (now (list .exit)) ≡ completedBy o k (now (words .entry)) (now (marks .entry)) (now (list .entry)) ⌝ }
 {
     let net = check_net(o, k, words);
     match net {

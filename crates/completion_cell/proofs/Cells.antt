@@ -9,7 +9,7 @@ use Rattle.theory_laws.specs.Over.{over}
 use Rattle.theory.specs.Words.{is, isnt, word}
 use Rattle.theory.specs.Marks.{saysYes, saysNo}
 use Rattle.theory.specs.Completion.{cell}
-use Rattle.theory.proofs.Bytes.{has-T, no-T, has-F, no-F}
+use Rattle.theory.proofs.machine.Bytes.{has-T, no-T, has-F, no-F}
 
 -- One value, or two, written over the front of a list.
 put-one : (l : List ℕ) (v : ℕ) → 1 ≤ length l → set l 0 v ≡ over (v ∷ []) l

@@ -1,30 +1,30 @@
-// The answers of scan, question, clash test, completion, reason and reason check, each as a row of the number table.
+// The answers of scan, question, clash test, completion, reason and reason check, each as a reply.
 ghost use mathlib.Core.Path.{_≡_};
-ghost use Rattle.scan.specs.Table.{scanRow};
-ghost use Rattle.question.specs.Table.{answerNumber, askedRow};
-ghost use Rattle.clash.specs.Table.{clashedRow};
-ghost use Rattle.completion.specs.Table.{completedRow};
-ghost use Rattle.reason.specs.Table.{reasonedRow};
-ghost use Rattle.reason_check.specs.Table.{verdictRow};
-ghost use Rattle.library_row.specs.Fits.{Fits};
+ghost use Rattle.scan.specs.Table.{scanReply};
+ghost use Rattle.question.specs.Table.{answerNumber, askedReply};
+ghost use Rattle.clash.specs.Table.{clashedReply};
+ghost use Rattle.completion.specs.Table.{completedReply};
+ghost use Rattle.reason.specs.Table.{reasonedReply};
+ghost use Rattle.reason_check.specs.Table.{verdictReply};
+ghost use Rattle.library_reply.specs.Fits.{Fits};
 use clash::Clashed;
 use completion::Completed;
-use net::Row;
+use net::Reply;
 use net::refusal_given;
-use net::row_of;
+use net::reply_of;
 use question::Answer;
 use question::Asked;
 use reason::Reasoned;
 use reason_check::Verdict;
 use scan::Scanned;
 
-// The row of a scan.
-pub fn scanned_given(scanned: Scanned) -> Row
-    ensures { λ r. ⌜ r ≡ scanRow scanned ⌝ }
+// The reply of a scan.
+pub fn scanned_given(scanned: Scanned) -> Reply
+    ensures { λ r. ⌜ r ≡ scanReply scanned ⌝ }
 {
     match scanned {
-        Scanned::Done(count) => row_of(0, count, 0),
-        Scanned::Spent(count) => row_of(6, count, 0),
+        Scanned::Done(count) => reply_of(0, count, 0),
+        Scanned::Spent(count) => reply_of(6, count, 0),
         Scanned::Refused(refusal) => refusal_given(refusal),
     }
 }
@@ -41,59 +41,59 @@ fn answer_number(answer: Answer) -> u32
     }
 }
 
-// The row of a question.
-pub fn asked_given(asked: Asked) -> Row
-    ensures { λ r. ⌜ r ≡ askedRow asked ⌝ }
+// The reply of a question.
+pub fn asked_given(asked: Asked) -> Reply
+    ensures { λ r. ⌜ r ≡ askedReply asked ⌝ }
 {
     match asked {
-        Asked::Done(answer, count) => row_of(0, answer_number(answer), count),
+        Asked::Done(answer, count) => reply_of(0, answer_number(answer), count),
         Asked::Refused(refusal) => refusal_given(refusal),
     }
 }
 
-// The row of a clash test.
-pub fn clashed_given(clashed: Clashed) -> Row
-    requires { ⌜ Fits (clashedRow clashed) ⌝ }
-    ensures { λ r. ⌜ r ≡ clashedRow clashed ⌝ }
+// The reply of a clash test.
+pub fn clashed_given(clashed: Clashed) -> Reply
+    requires { ⌜ Fits (clashedReply clashed) ⌝ }
+    ensures { λ r. ⌜ r ≡ clashedReply clashed ⌝ }
 {
     match clashed {
-        Clashed::At(x, y) => row_of(0, x as u32, y as u32),
-        Clashed::Nowhere => row_of(7, 0, 0),
+        Clashed::At(x, y) => reply_of(0, x as u32, y as u32),
+        Clashed::Nowhere => reply_of(7, 0, 0),
         Clashed::Refused(refusal) => refusal_given(refusal),
     }
 }
 
-// The row of a completion.
-pub fn completed_given(completed: Completed) -> Row
-    requires { ⌜ Fits (completedRow completed) ⌝ }
-    ensures { λ r. ⌜ r ≡ completedRow completed ⌝ }
+// The reply of a completion.
+pub fn completed_given(completed: Completed) -> Reply
+    requires { ⌜ Fits (completedReply completed) ⌝ }
+    ensures { λ r. ⌜ r ≡ completedReply completed ⌝ }
 {
     match completed {
-        Completed::Done(size) => row_of(0, size as u32, 0),
-        Completed::Short(needed) => row_of(8, needed as u32, 0),
+        Completed::Done(size) => reply_of(0, size as u32, 0),
+        Completed::Short(needed) => reply_of(8, needed as u32, 0),
         Completed::Refused(refusal) => refusal_given(refusal),
     }
 }
 
-// The row of a reason.
-pub fn reasoned_given(reasoned: Reasoned) -> Row
-    ensures { λ r. ⌜ r ≡ reasonedRow reasoned ⌝ }
+// The reply of a reason.
+pub fn reasoned_given(reasoned: Reasoned) -> Reply
+    ensures { λ r. ⌜ r ≡ reasonedReply reasoned ⌝ }
 {
     match reasoned {
-        Reasoned::Done(places) => row_of(0, places, 0),
-        Reasoned::Unsupported => row_of(7, 0, 0),
-        Reasoned::Short(needed) => row_of(8, needed, 0),
+        Reasoned::Done(places) => reply_of(0, places, 0),
+        Reasoned::Unsupported => reply_of(7, 0, 0),
+        Reasoned::Short(needed) => reply_of(8, needed, 0),
         Reasoned::Refused(refusal) => refusal_given(refusal),
     }
 }
 
-// The row of the check of a reason.
-pub fn verdict_given(verdict: Verdict) -> Row
-    ensures { λ r. ⌜ r ≡ verdictRow verdict ⌝ }
+// The reply of the check of a reason.
+pub fn verdict_given(verdict: Verdict) -> Reply
+    ensures { λ r. ⌜ r ≡ verdictReply verdict ⌝ }
 {
     match verdict {
-        Verdict::Holds => row_of(0, 1, 0),
-        Verdict::Fails => row_of(0, 0, 0),
+        Verdict::Holds => reply_of(0, 1, 0),
+        Verdict::Fails => reply_of(0, 0, 0),
         Verdict::Refused(refusal) => refusal_given(refusal),
     }
 }

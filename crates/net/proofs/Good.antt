@@ -1,4 +1,4 @@
--- The tests of row 4 fail exactly for what may be asked.
+-- The tests of number 4 fail exactly for what may be asked.
 use Prim.Native.Nat.{ℕ, _+_}
 use mathlib.Core.Path.{_≡_}
 use mathlib.Core.Bool.{false, _||_}

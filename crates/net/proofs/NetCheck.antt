@@ -1,4 +1,4 @@
--- The check of a net says yes exactly to nets, and gives each refusal exactly where its row says.
+-- The check of a net says yes exactly to nets, and gives each refusal exactly where its clause says.
 use Prim.Native.Nat.{ℕ, suc, _+_, _<_, _≤_, zero-le, suc-le-suc}
 use mathlib.Core.Path.{_≡_, refl, sym, ap, subst, _∙_}
 use mathlib.Core.Bool.{Bool, true, false, cond}
@@ -9,12 +9,12 @@ use native.Mathlib.Nat.{le-refl, le-of-lt}
 use borrow.Author.Tests.{ltb-true, ltb-false, eqb-false, lt-ltb, le-ltb}
 use lib.Dec.{ltb, eqb}
 use lib.ListN.{length, getD}
-use Rattle.theory_laws.proofs.Booleans.{not-so, clash}
+use Rattle.theory_laws.proofs.Booleans.{not-so, contradiction}
 use Rattle.theory.specs.Words.{nodeLimit, wordLimit}
 use Rattle.theory.specs.Nets.{LegalWord, LegalWords, Net}
 use Rattle.theory.proofs.Inside.{at-member}
 use Rattle.net.specs.Legal.{legal, legalPrefix}
-use Rattle.net.specs.Table.{checkNet, checkedRow}
+use Rattle.net.specs.Table.{checkNet, checkedReply}
 use Rattle.net.specs.declared.Refusal.the-variants.{TooManyNodes, TooManyWords, IllegalWord}
 use Rattle.net.specs.declared.Checked.{Checked}
 use Rattle.net.specs.declared.Checked.the-variants.{Nodes, Refused}
@@ -22,10 +22,10 @@ use Rattle.net.proofs.Legality.{legal-means, prefix-legal, prefix-illeg
 
 -- A check's number in the paper's table, and the value that goes with it.
 abbrev numberOf : Checked → ℕ
-numberOf c = checkedRow c .number
+numberOf c = checkedReply c .number
 
 abbrev valueOf : Checked → ℕ
-valueOf c = checkedRow c .first
+valueOf c = checkedReply c .first
 
 -- Checks with different numbers differ.
 apart : {A : Type 0} {p q : Checked} → p ≡ q → eqb (numberOf p) (numberOf q) ≡ false → A
@@ -103,7 +103,7 @@ module _ (o k : ℕ) (ws : List ℕ) where
   passed {w = w} = legal-means o k w .0
 
   failed : {w : ℕ} → legal o (o + k) w ≡ false → LegalWord o k w → ⊥
-  failed {w = w} e l = clash (sym e ∙ legal-means o k w .1 l)
+  failed {w = w} e l = contradiction (sym e ∙ legal-means o k w .1 l)
 
   is-many : checkNet o k ws ≡ Refused TooManyNodes → nodeLimit < o + k
   unfolding many
@@ -113,7 +113,7 @@ module _ (o k : ℕ) (ws : List ℕ) where
   unfolding checkNet
   many-is h = rw (lt-ltb nodeLimit (o + k) h)
 
-  -- Row 1 is given exactly if there are too many nodes.
+  -- Number 1 is given exactly if there are too many nodes.
   pub many-nodes-exactly : (checkNet o k ws ≡ Refused TooManyNodes) ↔ (nodeLimit < o + k)
   many-nodes-exactly = (is-many, many-is)
 
@@ -127,7 +127,7 @@ module _ (o k : ℕ) (ws : List ℕ) where
   unfolding checkNet
   long-is h = rw (le-ltb nodeLimit (o + k) (h .0), lt-ltb wordLimit (length ws) (h .1))
 
-  -- Row 2 is given exactly if the nodes are few enough and there are too many words.
+  -- Number 2 is given exactly if the nodes are few enough and there are too many words.
   pub many-words-exactly : (checkNet o k ws ≡ Refused TooManyWords) ↔ ((o + k ≤ nodeLimit) × (wordLimit < length ws))
   many-words-exactly = (is-long, long-is)
 
@@ -158,7 +158,7 @@ module _ (o k : ℕ) (ws : List ℕ) where
   illegal-is : (i : ℕ) → (o + k ≤ nodeLimit) × (length ws ≤ wordLimit) × FirstIllegal o k ws i → checkNet o k ws ≡ Refused (IllegalWord i)
   illegal-is i h = sym (stops-illegal (h .0) (h .1) (sym (first-is i (h .2))) (h .2 .below))
 
-  -- Row 3 is given exactly if nodes and words are few enough, and then for the first illegal word.
+  -- Number 3 is given exactly if nodes and words are few enough, and then for the first illegal word.
   pub illegal-word-exactly : (i : ℕ)
       → (checkNet o k ws ≡ Refused (IllegalWord i)) ↔ ((o + k ≤ nodeLimit) × (length ws ≤ wordLimit) × FirstIllegal o k ws i)
   illegal-word-exactly i = (is-illegal i, illegal-is i)

@@ -1,10 +1,10 @@
-// A link word's parts, the test of one word, and the check of a net: rows 1, 2 and 3 of the number table, in that order; the tests of row 4 for a statement; the refusals of rows 1 to 5, and a row as a struct.
+// A link word's parts, the test of one word, and the check of a net: numbers 1, 2 and 3 of the number table, in that order; the tests of number 4 for a statement; the refusals of numbers 1 to 5, and a reply as a struct.
 ghost use mathlib.Core.Path.{_≡_};
 ghost use Rattle.theory.specs.Words.{tailOf, headOf};
 ghost use Rattle.net.specs.Legal.{legal, legalPrefix};
-ghost use Rattle.net.specs.Table.{checkNet, badPair, badStatement, row, refusalRow};
+ghost use Rattle.net.specs.Table.{checkNet, badPair, badStatement, reply, refusalReply};
 
-// The refusals that every operation passes on unchanged: rows 1 to 5.
+// The refusals that every operation passes on unchanged: numbers 1 to 5.
 pub enum Refusal {
     TooManyNodes,
     TooManyWords,
@@ -13,9 +13,9 @@ pub enum Refusal {
     ShortBuffer,
 }
 
-// A row of the number table.
+// A reply.
 #[repr(C)]
-pub struct Row {
+pub struct Reply {
     pub number: u32,
     pub first: u32,
     pub second: u32,
@@ -94,7 +94,7 @@ pub fn check_net(o: u32, k: u32, words: &[u32]) -> Checked
     Checked::Nodes(n)
 }
 
-// Whether a statement about `x` and `y` is none over a net of `n` nodes: row 4.
+// Whether a statement about `x` and `y` is none over a net of `n` nodes: number 4.
 pub fn is_bad_pair(o: u32, n: usize, x: u32, y: u32) -> bool
     ensures { λ r. ⌜ r ≡ badPair o n x y ⌝ }
 {
@@ -119,26 +119,26 @@ pub fn is_bad_statement(o: u32, n: usize, x: u32, y: u32, sign: u32) -> bool
     1 < sign
 }
 
-// The row of a number and its two values.
-pub fn row_of(number: u32, first: u32, second: u32) -> Row
-    ensures { λ r. ⌜ r ≡ row number first second ⌝ }
+// The reply of a number and its two values.
+pub fn reply_of(number: u32, first: u32, second: u32) -> Reply
+    ensures { λ r. ⌜ r ≡ reply number first second ⌝ }
 {
-    Row {
+    Reply {
         number: number,
         first: first,
         second: second,
     }
 }
 
-// The row of a refusal.
-pub fn refusal_given(refusal: Refusal) -> Row
-    ensures { λ r. ⌜ r ≡ refusalRow refusal ⌝ }
+// The reply of a refusal.
+pub fn refusal_given(refusal: Refusal) -> Reply
+    ensures { λ r. ⌜ r ≡ refusalReply refusal ⌝ }
 {
     match refusal {
-        Refusal::TooManyNodes => row_of(1, 0, 0),
-        Refusal::TooManyWords => row_of(2, 0, 0),
-        Refusal::IllegalWord(index) => row_of(3, index, 0),
-        Refusal::BadQuestion => row_of(4, 0, 0),
-        Refusal::ShortBuffer => row_of(5, 0, 0),
+        Refusal::TooManyNodes => reply_of(1, 0, 0),
+        Refusal::TooManyWords => reply_of(2, 0, 0),
+        Refusal::IllegalWord(index) => reply_of(3, index, 0),
+        Refusal::BadQuestion => reply_of(4, 0, 0),
+        Refusal::ShortBuffer => reply_of(5, 0, 0),
     }
 }

@@ -3,17 +3,17 @@ use Prim.Native.Nat.{ℕ}
 use mathlib.Core.Path.{_≡_}
 use mathlib.Core.Bool.{true, false}
 use mathlib.Core.List.{List}
-use Rattle.net.specs.Lines.{call}
+use Rattle.net.specs.Clauses.{call}
 use Rattle.netfile.specs.Contents.{contentsOf, noBodies, bodiesOf}
 use Rattle.netfile.specs.Table.{readFrom, malformed, wrongPlace, questionsAt, fileTable, fileDone}
 use Rattle.netfile.specs.declared.Contents.the-variants.{Bodies, Malformed}
 use Rattle.netfile.specs.Places.{Says}
-use Rattle.netfile.proofs.Places.{Outcome, size-wrong, first-wrong, second-wrong, third-wrong, nothing-wrong, outcome}
+use Rattle.netfile.proofs.Places.{ReadsAs, size-wrong, first-wrong, second-wrong, third-wrong, nothing-wrong, reads-as}
 
 module _ (s : List ℕ) where
-  -- Something is wrong: line 9 applies.
-  line-9 : {p : ℕ} → Says s (λ A wrong right. wrong p) → readFrom s ≡ call (fileTable s) (fileDone s)
-  line-9 {p} t =
+  -- Something is wrong: clause 9 applies.
+  clause-9 : {p : ℕ} → Says s (λ A wrong right. wrong p) → readFrom s ≡ call (fileTable s) (fileDone s)
+  clause-9 {p} t =
       let applies : malformed s ≡ true = t _ _ _ in
       let place : wrongPlace s ≡ p = t _ _ _ in
       let contents : contentsOf s ≡ Malformed p = t _ _ _ in
@@ -30,11 +30,11 @@ module _ (s : List ℕ) where
 
   -- The file reader.
   pub file-called : readFrom s ≡ call (fileTable s) (fileDone s)
-  file-called = at (outcome s)
+  file-called = at (reads-as s)
     where
-      at : Outcome s → readFrom s ≡ call (fileTable s) (fileDone s)
-      at (size-wrong h f) = line-9 f
-      at (first-wrong h x f) = line-9 f
-      at (second-wrong h x y f) = line-9 f
-      at (third-wrong h x y t f) = line-9 f
+      at : ReadsAs s → readFrom s ≡ call (fileTable s) (fileDone s)
+      at (size-wrong h f) = clause-9 f
+      at (first-wrong h x f) = clause-9 f
+      at (second-wrong h x y f) = clause-9 f
+      at (third-wrong h x y t f) = clause-9 f
       at (nothing-wrong h x y t f) = no-line f

@@ -9,7 +9,7 @@ use lib.ListN.{length}
 use Rattle.theory_laws.proofs.Booleans.{or-none-left}
 use Rattle.netfile_entry.specs.Entries.{contentsSize, entryAt}
 use Rattle.netfile_entry.specs.declared.Entry.{Entry}
-use Rattle.netfile_entry.specs.declared.Entry.the-variants.{Open, Closed}
+use Rattle.netfile_entry.specs.declared.Entry.the-variants.{Open, Shut}
 use Rattle.netfile.specs.Contents.{wrongSize, withEntry, entriesOf}
 use Rattle.netfile.specs.Places.{Says}
 
@@ -29,16 +29,16 @@ module _ (s : List ℕ) where
     unfolding entriesOf
     by-entries A wrong right = rw z
 
-    pub first-closed : (r : Entry) → r ≡ entryAt s 0 contentsSize → r ≡ Closed → Says s (λ A wrong right. wrong 0)
-    first-closed r e f A wrong right = rw (by-entries A wrong right, ← e, f)
+    pub first-shut : (r : Entry) → r ≡ entryAt s 0 contentsSize → r ≡ Shut → Says s (λ A wrong right. wrong 0)
+    first-shut r e f A wrong right = rw (by-entries A wrong right, ← e, f)
 
     module _ (r : Entry) (a d : ℕ) (e : r ≡ entryAt s 0 contentsSize) (f : r ≡ Open a d) where
-      pub second-closed : (t : Entry) → t ≡ entryAt s 1 d → t ≡ Closed → Says s (λ A wrong right. wrong 1)
-      second-closed t g h A wrong right = rw (by-entries A wrong right, ← e, f, ← g, h)
+      pub second-shut : (t : Entry) → t ≡ entryAt s 1 d → t ≡ Shut → Says s (λ A wrong right. wrong 1)
+      second-shut t g h A wrong right = rw (by-entries A wrong right, ← e, f, ← g, h)
 
       module _ (t : Entry) (a′ d′ : ℕ) (g : t ≡ entryAt s 1 d) (h : t ≡ Open a′ d′) where
-        pub third-closed : (u : Entry) → u ≡ entryAt s 2 d′ → u ≡ Closed → Says s (λ A wrong right. wrong 2)
-        third-closed u k l A wrong right = rw (by-entries A wrong right, ← e, f, ← g, h, ← k, l)
+        pub third-shut : (u : Entry) → u ≡ entryAt s 2 d′ → u ≡ Shut → Says s (λ A wrong right. wrong 2)
+        third-shut u k l A wrong right = rw (by-entries A wrong right, ← e, f, ← g, h, ← k, l)
 
         pub all-open : (u : Entry) (a″ d″ : ℕ) → u ≡ entryAt s 2 d′ → u ≡ Open a″ d″ → Says s (λ A wrong right. right a d a′ d′ a″ d″)
         all-open u a″ d″ k l A wrong right = rw (by-entries A wrong right, ← e, f, ← g, h, ← k, l)

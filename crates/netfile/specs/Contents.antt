@@ -1,25 +1,25 @@
--- The net file, read entry by entry: its contents, the stretches that its bodies are, and the rows of the reader and of an entry.
+-- The net file, read entry by entry: its contents, the stretches that its bodies are, and the replies of the reader and of an entry.
 use Prim.Native.Nat.{ℕ, _-_}
 use mathlib.Core.Bool.{Bool, cond, _||_}
 use mathlib.Core.List.{List, [], _∷_}
 use lib.Dec.{ltb}
 use lib.ListN.{length, take, drop}
-use Rattle.net.specs.Table.{Row, row}
+use Rattle.net.specs.Table.{Reply, reply}
 use Rattle.netfile_entry.specs.Entries.{contentsSize, entryAt}
 use Rattle.netfile_entry.specs.declared.Entry.{Entry}
-use Rattle.netfile_entry.specs.declared.Entry.the-variants.{Open, Closed}
+use Rattle.netfile_entry.specs.declared.Entry.the-variants.{Open, Shut}
 use Rattle.netfile.specs.declared.Contents.{Contents}
 use Rattle.netfile.specs.declared.Contents.the-variants.{Bodies, Malformed}
 
 -- The paper's number for each answer of the reader and for entry n, with its values: with 9 the place; with 0, where the paper names none, the
 -- end of the words, and an entry's start and end.
-abbrev pub contentsRow : Contents → Row
-contentsRow (Bodies e) = row 0 e 0
-contentsRow (Malformed place) = row 9 place 0
+abbrev pub contentsReply : Contents → Reply
+contentsReply (Bodies e) = reply 0 e 0
+contentsReply (Malformed place) = reply 9 place 0
 
-abbrev pub entryRow : ℕ → Entry → Row
-entryRow n (Open a e) = row 0 a e
-entryRow n Closed = row 9 n 0
+abbrev pub entryReply : ℕ → Entry → Reply
+entryReply n (Open a e) = reply 0 a e
+entryReply n Shut = reply 9 n 0
 
 -- The largest file.
 abbrev pub fileLimit : ℕ
@@ -29,10 +29,10 @@ fileLimit = 32768
 abbrev pub wrongSize : ℕ → Bool
 wrongSize size = ltb size contentsSize || ltb fileLimit size
 
--- After entry n: `next` gets the start and the end of its body. One that cannot be opened ends the reading, and `wrong` gets the place in its row.
+-- After entry n: `next` gets the start and the end of its body. One that cannot be opened ends the reading, and `wrong` gets the place in its reply.
 abbrev pub readOn : {A : Type 0} → (ℕ → A) → ℕ → (ℕ → ℕ → A) → Entry → A
 readOn wrong n next (Open a e) = next a e
-readOn wrong n next Closed = wrong (entryRow n Closed .first)
+readOn wrong n next Shut = wrong (entryReply n Shut .first)
 
 -- The same of a file whose body n has to start at `from`.
 abbrev pub withEntry : {A : Type 0} → (ℕ → A) → List ℕ → ℕ → ℕ → (ℕ → ℕ → A) → A

@@ -1,22 +1,22 @@
--- The reader's number table: line 9, and what is done where it does not apply.
+-- The reader's number table: clause 9, and what is done where it does not apply.
 use Prim.Native.Nat.{ℕ}
 use mathlib.Core.Bool.{Bool, true, false}
 use mathlib.Core.List.{List, [], _∷_}
-use Rattle.net.specs.Lines.{Line, line}
+use Rattle.net.specs.Clauses.{Clause, clause}
 use Rattle.netfile.specs.Contents.{entriesOf, contentsOf, noBodies, bodiesOf}
 use Rattle.netfile.specs.declared.Contents.{Contents}
 use Rattle.netfile.specs.declared.Contents.the-variants.{Bodies, Malformed}
 
 -- What the reader gives: the contents and the bodies.
-pub record Reading : Type 0 where
+pub record FileOutcome : Type 0 where
   pub contents : Contents
   pub bodies : List (List ℕ)
 
-abbrev pub reading : Contents → List (List ℕ) → Reading
-reading c b = record { contents = c; bodies = b }
+abbrev pub fileOutcome : Contents → List (List ℕ) → FileOutcome
+fileOutcome c b = record { contents = c; bodies = b }
 
-abbrev pub readFrom : List ℕ → Reading
-readFrom s = reading (contentsOf s) (bodiesOf s)
+abbrev pub readFrom : List ℕ → FileOutcome
+readFrom s = fileOutcome (contentsOf s) (bodiesOf s)
 
 -- Whether something is wrong with a file, and the place of what is; 0 where nothing is.
 abbrev pub malformed : List ℕ → Bool
@@ -29,8 +29,8 @@ wrongPlace s = entriesOf (λ place. place) (λ a e b f c g. 0) s
 abbrev pub questionsAt : List ℕ → ℕ
 questionsAt s = entriesOf (λ place. 0) (λ a e b f c g. c) s
 
-abbrev pub fileTable : List ℕ → List (Line Reading)
-fileTable s = line 9 (malformed s) (reading (Malformed (wrongPlace s)) noBodies) ∷ []
+abbrev pub fileTable : List ℕ → List (Clause FileOutcome)
+fileTable s = clause 9 (malformed s) (fileOutcome (Malformed (wrongPlace s)) noBodies) ∷ []
 
-abbrev pub fileDone : List ℕ → Reading
-fileDone s = reading (Bodies (questionsAt s)) (bodiesOf s)
+abbrev pub fileDone : List ℕ → FileOutcome
+fileDone s = fileOutcome (Bodies (questionsAt s)) (bodiesOf s)

@@ -9,8 +9,8 @@ use lib.ListN.{length}
 use lib.Dec.{eqb, leb}
 use Rattle.theory_laws.proofs.Booleans.{and-right}
 use Rattle.netfile_numbers.specs.Bytes.{u32At}
-use Rattle.netfile_entry.specs.Entries.{rightLength, rightEnd, opens, entryAt}
-use Rattle.netfile_entry.specs.declared.Entry.the-variants.{Open, Closed}
+use Rattle.netfile_entry.specs.Entries.{rightLength, rightEnd, entryOpens, entryAt}
+use Rattle.netfile_entry.specs.declared.Entry.the-variants.{Open, Shut}
 
 -- The length of the first body is 8.
 pub first-length : (n size : ℕ) → n ≡ 0 → eqb size 8 ≡ rightLength n size
@@ -31,17 +31,17 @@ earlier-end n end size h = rw (ne-eqb n 2 h)
 
 module _ (s : List ℕ) (n from start size : ℕ) (e : start ≡ u32At s (n * 8)) (f : size ≡ u32At s (n * 8 + 4)) where
   -- An entry whose start is wrong cannot be opened,
-  pub wrong-start : (start ≡ from → ⊥) → Closed ≡ entryAt s n from
+  pub wrong-start : (start ≡ from → ⊥) → Shut ≡ entryAt s n from
   unfolding entryAt
   wrong-start h = simp (← e, ne-eqb _ _ h)
 
   -- nor can one whose length is wrong,
-  pub wrong-length : start ≡ from → rightLength n size ≡ false → Closed ≡ entryAt s n from
+  pub wrong-length : start ≡ from → rightLength n size ≡ false → Shut ≡ entryAt s n from
   unfolding entryAt
   wrong-length g h = simp (← e, ← f, eq-eqb _ _ g, h)
 
   -- nor one whose end is wrong.
-  pub wrong-end : start ≡ from → rightLength n size ≡ true → rightEnd n (from + size) (length s) ≡ false → Closed ≡ entryAt s n from
+  pub wrong-end : start ≡ from → rightLength n size ≡ true → rightEnd n (from + size) (length s) ≡ false → Shut ≡ entryAt s n from
   unfolding entryAt
   wrong-end g h k = simp (← e, ← f, eq-eqb _ _ g, h, k)
 
@@ -65,7 +65,7 @@ InFile s a e = (a ≤ e) × (e ≤ length s)
 -- The stretch of an open entry does.
 pub open-inside : (s : List ℕ) (n from : ℕ) {a e : ℕ} → entryAt s n from ≡ Open a e → InFile s a e
 unfolding entryAt
-open-inside s n from {a} {e} h = at (opens s n from) (λ t. and-right sized ends (and-right (eqb (u32At s (n * 8)) from) _ t)) h
+open-inside s n from {a} {e} h = at (entryOpens s n from) (λ t. and-right sized ends (and-right (eqb (u32At s (n * 8)) from) _ t)) h
   where
     sized : Bool
     sized = rightLength n (u32At s (n * 8 + 4))
@@ -73,7 +73,7 @@ open-inside s n from {a} {e} h = at (opens s n from) (λ t. and-right sized ends
     ends : Bool
     ends = rightEnd n (from + u32At s (n * 8 + 4)) (length s)
 
-    at : (q : Bool) → (q ≡ true → ends ≡ true) → cond q (Open from (from + u32At s (n * 8 + 4))) Closed ≡ Open a e → InFile s a e
+    at : (q : Bool) → (q ≡ true → ends ≡ true) → cond q (Open from (from + u32At s (n * 8 + 4))) Shut ≡ Open a e → InFile s a e
     at true f h =
         let p : from ≡ a = cc in
         let r : from + u32At s (n * 8 + 4) ≡ e = cc in

@@ -6,7 +6,7 @@ use lib.Dec.{leb, eqb}
 use lib.ListN.{length}
 use Rattle.netfile_numbers.specs.Bytes.{u32At}
 use Rattle.netfile_entry.specs.declared.Entry.{Entry}
-use Rattle.netfile_entry.specs.declared.Entry.the-variants.{Open, Closed}
+use Rattle.netfile_entry.specs.declared.Entry.the-variants.{Open, Shut}
 
 -- The size of the contents, with which every file begins: three entries of eight bytes.
 abbrev pub contentsSize : ℕ
@@ -22,9 +22,9 @@ abbrev pub rightEnd : ℕ → ℕ → ℕ → Bool
 rightEnd n end size = cond (eqb n 2) (eqb end size) (leb end size)
 
 -- Entry n, whose body has to start at `from`, can be opened: its start, its length and its end are right. The end is a sum of whole numbers.
-abbrev pub opens : List ℕ → ℕ → ℕ → Bool
-opens s n from = eqb (u32At s (n * 8)) from && (rightLength n (u32At s (n * 8 + 4)) && rightEnd n (from + u32At s (n * 8 + 4)) (length s))
+abbrev pub entryOpens : List ℕ → ℕ → ℕ → Bool
+entryOpens s n from = eqb (u32At s (n * 8)) from && (rightLength n (u32At s (n * 8 + 4)) && rightEnd n (from + u32At s (n * 8 + 4)) (length s))
 
 -- What it says: the body's start and end.
 unfoldable pub entryAt : List ℕ → ℕ → ℕ → Entry
-entryAt s n from = cond (opens s n from) (Open from (from + u32At s (n * 8 + 4))) Closed
+entryAt s n from = cond (entryOpens s n from) (Open from (from + u32At s (n * 8 + 4))) Shut

@@ -8,7 +8,7 @@ use netfile_numbers::u32_at;
 // An entry of the contents: the start and the end of its body, or that it cannot be opened.
 pub enum Entry {
     Open(usize, usize),
-    Closed,
+    Shut,
 }
 
 // Whether body `n` may have this length.
@@ -33,13 +33,13 @@ pub fn open_entry(file: &[u8], n: usize, from: usize) -> Entry
     let start = u32_at(file, n * 8) as usize;
     let size = u32_at(file, n * 8 + 4) as usize;
     if start != from {
-        return Entry::Closed;
+        return Entry::Shut;
     }
     if !right_length(n, size) {
-        return Entry::Closed;
+        return Entry::Shut;
     }
     if !right_end(n, from + size, file.len()) {
-        return Entry::Closed;
+        return Entry::Shut;
     }
     Entry::Open(from, from + size)
 }

@@ -9,13 +9,13 @@ use native.Mathlib.Decide.{decLt, ℕ-discrete}
 use lib.Dec.{ltb}
 use lib.ListN.{getD}
 use borrow.Author.Tests.{ltb-true, ltb-false}
-use Rattle.theory_laws.proofs.Booleans.{clash as contradiction, and-left, and-right, and-both}
+use Rattle.theory_laws.proofs.Booleans.{contradiction, and-left, and-right, and-both}
 use Rattle.theory.specs.Words.{is, isnt}
 use Rattle.theory.specs.Nets.{Kind, Net}
 use Rattle.theory.specs.Marks.{saysYes, saysNo}
 use Rattle.theory.specs.Completion.{fullMarks}
-use Rattle.theory.proofs.Completing.{full-exact}
-use Rattle.clash.specs.Table.{firstBoth, firstClash, clashSearch, nowhere as isNowhere, clashedRow}
+use Rattle.theory.proofs.completion.Completing.{full-exact}
+use Rattle.clash.specs.Table.{firstBoth, firstClash, clashSearch, nowhere as isNowhere, clashedReply}
 use Rattle.clash.specs.declared.Clashed.{Clashed}
 use Rattle.clash.specs.declared.Clashed.the-variants.{At, Nowhere}
 use Rattle.promises.specs.Clashing.{ClashAt, SmallestClash}
@@ -148,8 +148,8 @@ module _ (o k : ℕ) (ws : List ℕ) where
       where
         at : Found 0 o (firstClash o k ws 0 o) → SmallestClash o k ws x y
         at (somewhere u v f l h w b) =
-            let p : u ≡ x = ap (λ (c : Clashed). clashedRow c .first) (sym f ∙ e) in
-            let q : v ≡ y = ap (λ (c : Clashed). clashedRow c .second) (sym f ∙ e) in
+            let p : u ≡ x = ap (λ (c : Clashed). clashedReply c .first) (sym f ∙ e) in
+            let q : v ≡ y = ap (λ (c : Clashed). clashedReply c .second) (sym f ∙ e) in
             rw (p, q) at (war-smallest u v (omega arith) w b)
         at (nowhere f b) = contradiction (ap isNowhere (sym e ∙ f))
 

@@ -1,22 +1,22 @@
 -- Our engine keeps what is promised of the clash test.
 use mathlib.Core.Path.{sym, ap, _∙_}
-use Rattle.clash.specs.Table.{Clash, clashedRow}
+use Rattle.clash.specs.Table.{ClashOutcome, clashedReply}
 use Rattle.clash.specs.declared.Clashed.{Clashed}
 use Rattle.promises.specs.Engines.{ours}
 use Rattle.promises.specs.Clashing.{Clashing}
 use Rattle.promises.proofs.Clashes.{clash-exactly, no-clash-exactly}
 use Rattle.promises.proofs.Demand1.{clash-obeys}
-use Rattle.promises.proofs.Tests.{past-line-3}
+use Rattle.promises.proofs.Tests.{past-clause-3}
 
--- What is given is what the search over a net came to, by line 0, and by line 7.
+-- What is given is what the search over a net came to, by number 0, and by clause 7.
 pub clashing : Clashing ours
 clashing = record {
   at = λ o k ws m x y e.
-      let d = clash-obeys o k ws m .exactly 0 .0 (ap (λ (c : Clashed). clashedRow c .number) e) in
-      let net = past-line-3 o k ws .0 (d .0, d .1 .0, d .1 .1 .0) in
-      clash-exactly o k ws net x y .0 (sym (ap (λ (r : Clash). r .answer) (clash-obeys o k ws m .leaves 0 d)) ∙ e);
+      let d = clash-obeys o k ws m .exactly 0 .0 (ap (λ (c : Clashed). clashedReply c .number) e) in
+      let net = past-clause-3 o k ws .0 (d .0, d .1 .0, d .1 .1 .0) in
+      clash-exactly o k ws net x y .0 (sym (ap (λ (r : ClashOutcome). r .answer) (clash-obeys o k ws m .leaves 0 d)) ∙ e);
   nowhere = λ o k ws m e.
-      let d = clash-obeys o k ws m .exactly 7 .0 (ap (λ (c : Clashed). clashedRow c .number) e) in
-      let net = past-line-3 o k ws .0 (d .0, d .1 .0, d .1 .1 .0) in
+      let d = clash-obeys o k ws m .exactly 7 .0 (ap (λ (c : Clashed). clashedReply c .number) e) in
+      let net = past-clause-3 o k ws .0 (d .0, d .1 .0, d .1 .1 .0) in
       no-clash-exactly o k ws net .0 (d .1 .1 .1 .1);
 }

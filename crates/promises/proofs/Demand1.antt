@@ -1,18 +1,18 @@
--- Demand 1, kept by our engine: whatever numbers and buffers a call is given, its number is that of the first line that applies, each buffer is
--- left as that line says, and where no line applies the call is done. Nothing is asked of the caller.
+-- Demand 1, kept by our engine: whatever numbers and buffers a call is given, its number is that of the first clause that applies, each buffer is
+-- left as that clause says, and where no clause applies the call is done. Nothing is asked of the caller.
 use Prim.Native.Nat.{ℕ, zero, suc, _+_}
 use mathlib.Core.Path.{_≡_, refl, sym}
 use mathlib.Core.Bool.{Bool, true, false, cond}
 use mathlib.Core.List.{List}
 use lib.Dec.{ltb}
-use Rattle.theory_laws.proofs.Booleans.{clash as contradiction}
+use Rattle.theory_laws.proofs.Booleans.{contradiction}
 use Rattle.theory.specs.Words.{signAt}
 use Rattle.theory.specs.Completion.{fullMarks, complete}
 use Rattle.theory.specs.Checks.{passes}
 use Rattle.net.specs.Table.{checkNet}
 use Rattle.scan.specs.Table.{forwardScanned, kindScanned}
 use Rattle.question.specs.Table.{questioned}
-use Rattle.clash.specs.Table.{firstBoth, firstClash, clashNodes, clashSearch, nowhere, clashTable, clashDone, clashedRow, clashedBy}
+use Rattle.clash.specs.Table.{firstBoth, firstClash, clashNodes, clashSearch, nowhere, clashTable, clashDone, clashedReply, clashedBy}
 use Rattle.clash.specs.declared.Clashed.{Clashed}
 use Rattle.clash.specs.declared.Clashed.the-variants as clashed
 use Rattle.completion.specs.Table.{completionTable, completionDone, completedBy}
@@ -25,20 +25,20 @@ use Rattle.scan.specs.Table.{scanTable, scanDone}
 use Rattle.question.specs.Table.{questionTable, questionDone}
 use Rattle.netfile.specs.Table.{readFrom, fileTable, fileDone}
 use Rattle.netfile.proofs.Called.{file-called}
-use Rattle.promises.specs.Numbers.{checkedNumber, scanNumber, questionNumber, clashNumber, completionNumber, reasonNumber, verdictNumber, readingNumber}
+use Rattle.promises.specs.Numbers.{checkedNumber, scanNumber, questionNumber, clashNumber, completionNumber, reasonNumber, verdictNumber, fileNumber}
 use Rattle.promises.specs.Engines.{ours}
 use Rattle.promises.specs.Demand1.{Demand1}
 use Rattle.promises.proofs.Deciding.{obeys}
 
 -- A search that came to some clash has number 0.
-clash-found : (o k : ℕ) (ws : List ℕ) (x j : ℕ) → nowhere (firstClash o k ws x j) ≡ false → clashedRow (firstClash o k ws x j) .number ≡ 0
+clash-found : (o k : ℕ) (ws : List ℕ) (x j : ℕ) → nowhere (firstClash o k ws x j) ≡ false → clashedReply (firstClash o k ws x j) .number ≡ 0
 unfolding firstClash
 clash-found o k ws x zero e = contradiction (sym e)
 clash-found o k ws x (suc j) e =
     at (firstBoth (fullMarks o k ws x) o k) (firstClash o k ws (suc x) j) (ltb (firstBoth (fullMarks o k ws x) o k) (o + k)) (clash-found o k ws (suc x) j) e
   where
-    at : (y : ℕ) (c : Clashed) (q : Bool) → (nowhere c ≡ false → clashedRow c .number ≡ 0) → nowhere (cond q (clashed.At x y) c) ≡ false
-        → clashedRow (cond q (clashed.At x y) c) .number ≡ 0
+    at : (y : ℕ) (c : Clashed) (q : Bool) → (nowhere c ≡ false → clashedReply c .number ≡ 0) → nowhere (cond q (clashed.At x y) c) ≡ false
+        → clashedReply (cond q (clashed.At x y) c) .number ≡ 0
     at y c true h f = refl
     at y c false h f = h f
 
@@ -97,9 +97,9 @@ module _ (o k : ℕ) (ws : List ℕ) where
       refl
 
 -- The file reader: 9, or 0.
-pub file-obeys : (s : List ℕ) → Obeys readingNumber (fileTable s) (fileDone s) (readFrom s)
+pub file-obeys : (s : List ℕ) → Obeys fileNumber (fileTable s) (fileDone s) (readFrom s)
 file-obeys s =
-    obeys readingNumber _ _ (record { numbered = (refl, tt); once = refl; nonzero = refl; zero = λ h. refl }) _
+    obeys fileNumber _ _ (record { numbered = (refl, tt); once = refl; nonzero = refl; zero = λ h. refl }) _
     (file-called s)
 
 -- Our engine keeps demand 1.

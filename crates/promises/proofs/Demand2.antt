@@ -7,18 +7,18 @@ use mathlib.Core.Logic.{_↔_}
 use native.Mathlib.Omega.{arith}
 use native.Mathlib.Decide.{decLt}
 use lib.ListN.{getD}
-use Rattle.theory_laws.proofs.Booleans.{clash}
+use Rattle.theory_laws.proofs.Booleans.{contradiction}
 use Rattle.theory.specs.Words.{Sign, is, isnt}
 use Rattle.theory.specs.Nets.{Statements, Kind, Links}
 use Rattle.theory.specs.Support.{Supported}
 use Rattle.theory.specs.Marks.{T, F, U, has, forward, kindly, forwardStart, kindStart, markerOf, At}
-use Rattle.theory.specs.Scans.{rounds, Count, Scanned, ended, spent, forwardScan, fullScan, kindScan}
+use Rattle.theory.specs.Scans.{rounds, Count, Runs, ended, spent, forwardScan, fullScan, kindScan}
 use Rattle.theory.specs.declared.Command.{Command}
-use Rattle.theory.proofs.Budgets.{last-round, count-unique, rounds-scanned}
-use Rattle.theory.proofs.Bounds.{forward-counted, forward-done, kind-counted}
-use Rattle.theory.proofs.Sides.{forward-exact, forward-spent, kind-exact, kind-exact-up, kind-spent, kind-spent-up}
+use Rattle.theory.proofs.machine.Budgets.{last-round, count-unique, rounds-run}
+use Rattle.theory.proofs.machine.Bounds.{forward-counted, forward-done, kind-counted}
+use Rattle.theory.proofs.machine.Sides.{forward-exact, forward-spent, kind-exact, kind-exact-up, kind-spent, kind-spent-up}
 use Rattle.scan.specs.declared.Scanned.the-variants as scanned
-use Rattle.question.specs.Table.{question, questioned, answerAt}
+use Rattle.question.specs.Table.{questionOutcome, questioned, answerAt}
 use Rattle.question.specs.declared.Answer.{Answer}
 use Rattle.question.specs.declared.Answer.the-variants.{None, Yes, No, Both}
 use Rattle.question.specs.declared.Asked.the-variants as asked
@@ -47,10 +47,10 @@ ended-count cs ws m budget d = let t = last-round cs ws m budget d in rw (t .cou
 
 -- A scan whose budget was spent has run all of its rounds, and each of them set something.
 spent-rounds : (cs : List Command) (ws m : List ℕ) (budget : ℕ) → rounds cs ws 0 budget m .done ≡ false → SpentRounds cs ws m budget (rounds cs ws 0 budget m .count)
-spent-rounds cs ws m budget d = go (rounds-scanned cs ws m budget)
+spent-rounds cs ws m budget d = go (rounds-run cs ws m budget)
   where
-    go : Scanned cs ws m budget (rounds cs ws 0 budget m) → SpentRounds cs ws m budget (rounds cs ws 0 budget m .count)
-    go (ended a k l e) = clash (sym d ∙ a)
+    go : Runs cs ws m budget (rounds cs ws 0 budget m) → SpentRounds cs ws m budget (rounds cs ws 0 budget m .count)
+    go (ended a k l e) = contradiction (sym d ∙ a)
     go (spent a b n e) = record { all = n; busy = b }
 
 -- What a marker of one byte means it means of the same byte elsewhere.

@@ -10,18 +10,17 @@ use borrow.Author.Tests.{ltb-true, le-ltb}
 use Rattle.theory.specs.Words.{wordLimit}
 use Rattle.theory.specs.Nets.{Kind, Net}
 use Rattle.theory.specs.Marks.{blank}
-use Rattle.theory.specs.Completion.{complete}
-use Rattle.theory.specs.Completion as theory
-use Rattle.theory.proofs.Completing.{complete-completed, completed-unique}
-use Rattle.theory.proofs.Order.{Among}
-use Rattle.theory.proofs.Demand3.{complete-net, complete-again, complete-part, alike as complete-alike, joining-keeps, others-keep, SameAnswer}
-use Rattle.completion.specs.Table.{Completion, completedBy, completedRow}
+use Rattle.theory.specs.Completion.{complete, Lists}
+use Rattle.theory.proofs.completion.Completing.{complete-lists, lists-unique}
+use Rattle.theory.proofs.machine.Order.{AllIn}
+use Rattle.theory.proofs.completion.Demand3.{complete-net, complete-again, complete-part, alike as complete-alike, joining-keeps, others-keep, SameAnswer}
+use Rattle.completion.specs.Table.{CompletionOutcome, completedBy, completedReply}
 use Rattle.completion.specs.declared.Completed.{Completed}
 use Rattle.completion.specs.declared.Completed.the-variants as completed
 use Rattle.promises.specs.Engines.{Engine, ours}
 use Rattle.promises.specs.Demand3.{CompletesTo, Joined, SameWord, Demand3}
 use Rattle.promises.proofs.Demand1.{completion-obeys}
-use Rattle.promises.proofs.Tests.{past-line-3}
+use Rattle.promises.proofs.Tests.{past-clause-3}
 use Rattle.promises.proofs.Reordered.{completion-order}
 use Rattle.promises.proofs.NetAnswers.{same-word, keeps-said, word-same}
 
@@ -33,7 +32,7 @@ joined-net o k ws vs j = record { few = j .left .few; short = j .short; legal = 
 turned : (o k : ℕ) (ws vs : List ℕ) → Joined o k ws vs → Joined o k vs ws
 turned o k ws vs j = record { left = j .right; right = j .left; short = omega (arith, j .short, length-append ws vs, length-append vs ws) }
 
-among-turned : (ws vs : List ℕ) → Among (ws ++ vs) (vs ++ ws)
+among-turned : (ws vs : List ℕ) → AllIn (ws ++ vs) (vs ++ ws)
 among-turned ws vs w m = ⊎-elim (Memᴰ·append-right vs) (Memᴰ·append-left ws) (List·Memᴰ·append-cases ws m)
 
 -- No engine completes a net to two lists: lent a list that has room for both, it gives the size of each and writes each.
@@ -42,16 +41,16 @@ completes-once e o k ws a b c d =
     let room : length (blank (o + k)) ≡ o + k = length-replicate {A = ℕ} (o + k) 0 in
     let long : length (a ++ b) ≡ length a + length b = length-append a b in
     let p = sym (c (blank (o + k)) (a ++ b) (omega arith) (omega arith)) ∙ d (blank (o + k)) (a ++ b) (omega arith) (omega arith) in
-    let size : length a ≡ length b = ap (λ (r : Completion). completedRow (r .answer) .first) p in
+    let size : length a ≡ length b = ap (λ (r : CompletionOutcome). completedReply (r .answer) .first) p in
     sym (take-append-seam a (drop (length a) (a ++ b)))
-    ∙ ap (λ (r : Completion). take (length a) (r .list)) p
+    ∙ ap (λ (r : CompletionOutcome). take (length a) (r .list)) p
     ∙ ap (λ (i : ℕ). take i (b ++ drop (length b) (a ++ b))) size
     ∙ take-append-seam b (drop (length b) (a ++ b))
 
 module _ (o k : ℕ) where
   -- Our engine completes a net to its completed list.
   completes-to : (ws : List ℕ) → Net o k ws → CompletesTo ours o k ws (complete o k ws)
-  completes-to ws n m l h i = let t = past-line-3 o k ws .1 n in rw (t .0, t .1, t .2, le-ltb (length m) (o + k) h, le-ltb (length l) (length (complete o k ws)) i)
+  completes-to ws n m l h i = let t = past-clause-3 o k ws .1 n in rw (t .0, t .1, t .2, le-ltb (length m) (o + k) h, le-ltb (length l) (length (complete o k ws)) i)
 
   -- And to no other.
   completes-only : (ws out : List ℕ) → Net o k ws → CompletesTo ours o k ws out → complete o k ws ≡ out
@@ -122,21 +121,21 @@ module _ (o k : ℕ) where
           third ws us n f = record { few = f .few; short = omega (arith, f .short, length-append ws us); legal = λ w m. f .legal w (Memᴰ·append-right ws m) }
 
 -- A list that is too short is shorter than the supported words, whose number is given.
-short-needs : (o k : ℕ) (ws m l : List ℕ) (n : ℕ) → completedBy o k ws m l .answer ≡ completed.Short n → (out : List ℕ) → theory.Completed o k ws out
+short-needs : (o k : ℕ) (ws m l : List ℕ) (n : ℕ) → completedBy o k ws m l .answer ≡ completed.Short n → (out : List ℕ) → Lists o k ws out
     → (n ≡ length out) × (length l < n)
 short-needs o k ws m l n e out c =
-    let d = completion-obeys o k ws m l .exactly 8 .0 (ap (λ (r : Completed). completedRow r .number) e) in
+    let d = completion-obeys o k ws m l .exactly 8 .0 (ap (λ (r : Completed). completedReply r .number) e) in
     let q = completion-obeys o k ws m l .leaves 8 d in
-    let net = past-line-3 o k ws .0 (d .0, d .1 .0, d .1 .1 .0) in
-    let size : length (complete o k ws) ≡ n = ap (λ (r : Completed). completedRow r .first) (sym (ap (λ (r : Completion). r .answer) q) ∙ e) in
-    let same : length (complete o k ws) ≡ length out = ap (length {A = ℕ}) (completed-unique o k ws (complete o k ws) out (complete-completed o k ws net) c) in
+    let net = past-clause-3 o k ws .0 (d .0, d .1 .0, d .1 .1 .0) in
+    let size : length (complete o k ws) ≡ n = ap (λ (r : Completed). completedReply r .first) (sym (ap (λ (r : CompletionOutcome). r .answer) q) ∙ e) in
+    let same : length (complete o k ws) ≡ length out = ap (length {A = ℕ}) (lists-unique o k ws (complete o k ws) out (complete-lists o k ws net) c) in
     let less : length l < length (complete o k ws) = ltb-true (length l) (length (complete o k ws)) (d .1 .1 .1 .1) in
     (omega arith, omega arith)
 
 -- Our engine keeps demand 3.
 pub demand-3 : Demand3 ours
 demand-3 = record {
-  lists = λ o k ws n. (complete o k ws, completes-to o k ws n, complete-completed o k ws n);
+  lists = λ o k ws n. (complete o k ws, completes-to o k ws n, complete-lists o k ws n);
   needs = short-needs;
   again = λ o k ws out n c.
       let a = completes-only o k ws out n c in

@@ -4,14 +4,14 @@ use mathlib.Core.List.{[], _∷_}
 use native.Mathlib.Omega.{arith}
 use lib.ListN.{getD}
 use Rattle.theory.specs.NetM.{M}
-use Rattle.theory_laws.proofs.Booleans.{clash}
+use Rattle.theory_laws.proofs.Booleans.{contradiction}
 use Rattle.theory.specs.Words.{is, isnt}
 use Rattle.theory.specs.Marks.{F, has, mark, link, links, command, round, blank}
 use Rattle.theory.specs.Scans.{same, rounds}
-use Rattle.theory.proofs.Loss.{two-is-not-four, nought-is-not-four}
+use Rattle.theory.proofs.machine.Loss.{two-is-not-four, nought-is-not-four}
 use Rattle.net.specs.Legal.{legalPrefix}
 use Rattle.net.specs.Table.{checkNet}
-use Rattle.scan.specs.Table.{Outcome}
+use Rattle.scan.specs.Table.{ScanOutcome}
 use Rattle.scan.specs.declared.Scanned.the-variants as scanned
 use Rattle.question.specs.Table.{questioned}
 use Rattle.clash.specs.Table.{firstBoth, firstClash}
@@ -28,7 +28,7 @@ misses-no = refl
 
 -- But 0 ↛ 4 is supported.
 pub never-back-fails : Demand2 neverBack → ⊥
-never-back-fails d = clash (d .question 2 4 M 0 4 (blank 6) None 2 misses-no isnt .1 nought-is-not-four)
+never-back-fails d = contradiction (d .question 2 4 M 0 4 (blank 6) None 2 misses-no isnt .1 nought-is-not-four)
 
 -- One object, two kinds, words 2 and 3: object 0 clashes at kind 1, and classically 0 → 2 follows.
 follows-all : classical .question 1 2 (2 ∷ 3 ∷ []) 0 2 (blank 3) .answer ≡ asked.Done Yes 2
@@ -43,7 +43,7 @@ says-none = refl
 -- So 0 → 2 is not supported, and a yes is wrong.
 pub classical-fails : Demand2 classical → ⊥
 classical-fails d =
-    clash (demand-2 .question 1 2 (2 ∷ 3 ∷ []) 0 2 (blank 3) None 2 says-none is .1 (d .question 1 2 (2 ∷ 3 ∷ []) 0 2 (blank 3) Yes 2 follows-all is .0 refl))
+    contradiction (demand-2 .question 1 2 (2 ∷ 3 ∷ []) 0 2 (blank 3) None 2 says-none is .1 (d .question 1 2 (2 ∷ 3 ∷ []) 0 2 (blank 3) Yes 2 follows-all is .0 refl))
 
 -- Net M from kind 4: the backward search ends with no F.
 loses-noes : neverUp .kindScan 2 4 M 4 17 (blank 6) ≡ record { answer = scanned.Done 3; marks = 0 ∷ 1 ∷ 0 ∷ 0 ∷ 1 ∷ 1 ∷ [] }
@@ -53,6 +53,6 @@ loses-noes = refl
 -- But 2 ↛ 4 is supported.
 pub never-up-fails : Demand2 neverUp → ⊥
 never-up-fails d =
-    clash
-    (sym (ap (λ (r : Outcome). has F (getD (r .marks) 2 0)) loses-noes)
-    ∙ d .kindScan 2 4 M 4 17 (blank 6) 3 (ap (λ (r : Outcome). r .answer) loses-noes) 2 (omega arith) isnt .1 two-is-not-four)
+    contradiction
+    (sym (ap (λ (r : ScanOutcome). has F (getD (r .marks) 2 0)) loses-noes)
+    ∙ d .kindScan 2 4 M 4 17 (blank 6) 3 (ap (λ (r : ScanOutcome). r .answer) loses-noes) 2 (omega arith) isnt .1 two-is-not-four)

@@ -11,15 +11,14 @@ use Rattle.theory.specs.Words.{Sign, is, tailOf}
 use Rattle.theory.specs.Nets.{Kind, Links, Net}
 use Rattle.theory.specs.Support.{Supported}
 use Rattle.theory.specs.Marks.{At, markerOf, U, blank}
-use Rattle.theory.specs.Completion.{complete}
-use Rattle.theory.specs.Completion as theory
-use Rattle.theory.proofs.Bounds.{kind-done}
-use Rattle.theory.proofs.Completing.{complete-completed, completed-unique}
-use Rattle.theory.proofs.Demand3.{part-of, completed-as, same-completed, beside-joined, others-supported}
+use Rattle.theory.specs.Completion.{complete, Lists}
+use Rattle.theory.proofs.machine.Bounds.{kind-done}
+use Rattle.theory.proofs.completion.Completing.{complete-lists, lists-unique}
+use Rattle.theory.proofs.completion.Demand3.{part-of, lists-as, same-completed, beside-joined, others-supported}
 use Rattle.theory.proofs.Inside.{legal-links}
-use Rattle.theory.proofs.Joining.{Sub, ends}
-use Rattle.net.proofs.Rows.{refusal-numbers}
-use Rattle.scan.specs.Table.{Outcome, scanTable, scanRow}
+use Rattle.theory.proofs.support.Joining.{Sub, ends}
+use Rattle.net.proofs.Replies.{refusal-numbers}
+use Rattle.scan.specs.Table.{ScanOutcome, scanTable, scanReply}
 use Rattle.scan.specs.declared.Scanned.{Scanned}
 use Rattle.scan.specs.declared.Scanned.the-variants as scanned
 use Rattle.promises.specs.Tables.{Due}
@@ -28,23 +27,23 @@ use Rattle.promises.specs.Demand1.{Demand1}
 use Rattle.promises.specs.Demand2.{Demand2}
 use Rattle.promises.specs.Demand3.{CompletesTo, Joined, Demand3}
 use Rattle.promises.specs.FromKind.{KindMarks, SameFromKind, Demand3FromKind}
-use Rattle.promises.proofs.Tests.{past-line-3}
+use Rattle.promises.proofs.Tests.{past-clause-3}
 use Rattle.promises.proofs.Demand1.{demand-1}
 use Rattle.promises.proofs.Demand2.{demand-2}
 use Rattle.promises.proofs.Demand3.{completes-once, demand-3}
 
 -- An outcome with number 0 is done.
-number-0 : (r : Scanned) → scanRow r .number ≡ 0 → (count : ℕ) × (r ≡ scanned.Done count)
+number-0 : (r : Scanned) → scanReply r .number ≡ 0 → (count : ℕ) × (r ≡ scanned.Done count)
 number-0 (scanned.Done count) e = (count, refl)
 number-0 (scanned.Spent count) e = absurd (omega arith)
 number-0 (scanned.Refused r) e = absurd (omega (arith, refusal-numbers r))
 
 module _ (e : Engine) (first : Demand1 e) (second : Demand2 e) (o k : ℕ) where
-  -- No line of the table applies to a kind scan over a net that has room and rounds enough.
+  -- No clause of the table applies to a kind scan over a net that has room and rounds enough.
   scan-done : (ws : List ℕ) → Net o k ws → (y : ℕ) → Kind o k y → (budget : ℕ) → 3 * (o + k) - 1 ≤ budget → (room : List ℕ) → o + k ≤ length room
       → (count : ℕ) × (e .kindScan o k ws y budget room .answer ≡ scanned.Done count)
   scan-done ws n y h budget g room l =
-      let t = past-line-3 o k ws .1 n in
+      let t = past-clause-3 o k ws .1 n in
       let due : Due 0 (scanTable true o k ws y budget room) =
       (t .0, (t .1, (t .2, (rw (lt-leb (o + k) y (h .high), le-ltb y o (h .low)), (le-ltb (length room) (o + k) l, (rw (kind-done o k ws (n .legal) y (h .high) budget g), refl)))))) in
       number-0 (e .kindScan o k ws y budget room .answer) (first .kindScan o k ws y budget room .exactly 0 .1 due)
@@ -60,13 +59,13 @@ module _ (e : Engine) (first : Demand1 e) (second : Demand2 e) (o k : ℕ) where
   -- The marks of a kind scan that is done say what is supported.
   said : (ws : List ℕ) (y : ℕ) (m : List ℕ) → KindMarks e o k ws y m → (x : ℕ) → x < o + k → (s : Sign) → At m (markerOf s) x ↔ Supported o k (Links ws) x y s
   said ws y m t x h s =
-      subst (λ (l : List ℕ). At l (markerOf s) x ↔ Supported o k (Links ws) x y s) (ap (λ (r : Outcome). r .marks) (t .done))
-      (second .kindScan o k ws y (t .budget) (t .room) (t .count) (ap (λ (r : Outcome). r .answer) (t .done)) x h s)
+      subst (λ (l : List ℕ). At l (markerOf s) x ↔ Supported o k (Links ws) x y s) (ap (λ (r : ScanOutcome). r .marks) (t .done))
+      (second .kindScan o k ws y (t .budget) (t .room) (t .count) (ap (λ (r : ScanOutcome). r .answer) (t .done)) x h s)
 
   said-up : (ws : List ℕ) (y : ℕ) (m : List ℕ) → KindMarks e o k ws y m → (z : ℕ) → z < o + k → At m U z ↔ Supported o k (Links ws) y z is
   said-up ws y m t z h =
-      subst (λ (l : List ℕ). At l U z ↔ Supported o k (Links ws) y z is) (ap (λ (r : Outcome). r .marks) (t .done))
-      (second .kindScanUp o k ws y (t .budget) (t .room) (t .count) (ap (λ (r : Outcome). r .answer) (t .done)) z h)
+      subst (λ (l : List ℕ). At l U z ↔ Supported o k (Links ws) y z is) (ap (λ (r : ScanOutcome). r .marks) (t .done))
+      (second .kindScanUp o k ws y (t .budget) (t .room) (t .count) (ap (λ (r : ScanOutcome). r .answer) (t .done)) z h)
 
   -- So where all that one net supports another does, its marks are marks of the other.
   into : (ws vs : List ℕ) → Sub (Supported o k (Links ws)) (Supported o k (Links vs)) → (y : ℕ) (m l : List ℕ) → KindMarks e o k ws y m → KindMarks e o k vs y l
@@ -86,21 +85,21 @@ module _ (e : Engine) (first : Demand1 e) (second : Demand2 e) (o k : ℕ) where
   alike-from-kind third ws vs a b n r c d = (there, back)
     where
       -- What the engine completes a net to is its completed list.
-      completed-to : (us out : List ℕ) → Net o k us → CompletesTo e o k us out → theory.Completed o k us out
+      completed-to : (us out : List ℕ) → Net o k us → CompletesTo e o k us out → Lists o k us out
       completed-to us out n c =
           let (all, t, p) = third .lists o k us n in
-          subst (theory.Completed o k us) (completes-once e o k us all out t c) p
+          subst (Lists o k us) (completes-once e o k us all out t c) p
 
-      p : theory.Completed o k ws a
+      p : Lists o k ws a
       p = completed-to ws a n c
 
-      q : theory.Completed o k vs b
+      q : Lists o k vs b
       q = completed-to vs b r d
 
       there : a ≡ b → (us : List ℕ) → Joined o k ws us → Joined o k vs us → SameFromKind e o k (ws ++ us) (vs ++ us)
       there f us i j y m l t u x h s =
           let same : complete o k ws ≡ complete o k vs =
-          completed-unique o k ws (complete o k ws) a (complete-completed o k ws n) p ∙ f ∙ completed-unique o k vs b (complete o k vs) q (complete-completed o k vs r) in (
+          lists-unique o k ws (complete o k ws) a (complete-lists o k ws n) p ∙ f ∙ lists-unique o k vs b (complete o k vs) q (complete-lists o k vs r) in (
             into (ws ++ us) (vs ++ us) (beside-joined o k ws vs us (same-completed o k ws vs n r same)) y m l t u x h s,
             into (vs ++ us) (ws ++ us) (beside-joined o k vs ws us (same-completed o k vs ws r n (sym same))) y l m u t x h s,
           )
@@ -111,7 +110,7 @@ module _ (e : Engine) (first : Demand1 e) (second : Demand2 e) (o k : ℕ) where
           let same : SameFromKind e o k ws vs =
           rw (append-nil ws, append-nil vs) at (f [] (record { left = n; right = none; short = rw append-nil (n .short) }) (record { left = r; right = none; short = rw append-nil (r .short) })) in
           let turned : SameFromKind e o k vs ws = λ y m l t u x h s. let g = same y l m u t x h s in (g .1, g .0) in
-          completed-unique o k vs a b (completed-as o k ws vs a (supported-into ws vs n r same) (supported-into vs ws r n turned) p) q
+          lists-unique o k vs a b (lists-as o k ws vs a (supported-into ws vs n r same) (supported-into vs ws r n turned) p) q
 
   others-from-kind : (ws vs : List ℕ) → Joined o k ws vs → (a : ℕ) → a < o → ((w : ℕ) → List·Memᴰ w vs → tailOf w ≡ a)
       → (y : ℕ) (m l : List ℕ) → KindMarks e o k ws y m → KindMarks e o k (ws ++ vs) y l

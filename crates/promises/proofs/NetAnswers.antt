@@ -12,12 +12,12 @@ use Rattle.theory.specs.Nets.{Kind, Net}
 use Rattle.theory.specs.Marks.{has, blank, markerOf}
 use Rattle.theory.specs.Scans.{fullScan}
 use Rattle.theory.specs.Completion.{fullMarks}
-use Rattle.theory.proofs.Demand3.{SameAnswer}
+use Rattle.theory.proofs.completion.Demand3.{SameAnswer}
 use Rattle.net.specs.Table.{badPair}
 use Rattle.net.specs.declared.Refusal.the-variants.{BadQuestion, ShortBuffer}
 use Rattle.net.proofs.NetCheck.{net-is-checked}
 use Rattle.net.proofs.Good.{good-pair, good-kind}
-use Rattle.question.specs.Table.{Question, question, questionLines, questionDone, questioned, answerAt, readAt}
+use Rattle.question.specs.Table.{QuestionOutcome, questionOutcome, questionClauses, questionDone, questioned, answerAt, readAt}
 use Rattle.net.proofs.OnNet.{gone-on}
 use Rattle.question.specs.declared.Answer.{Answer}
 use Rattle.question.specs.declared.Asked.{Asked}
@@ -50,12 +50,12 @@ module _ (o k x y : ℕ) where
     net-answer : (ws : List ℕ) → Net o k ws
         → questioned o k ws x y m .answer ≡ answer (badPair o (o + k) x y) (ltb (length m) (o + k)) (byte o k ws x y) (fullScan (o + k) ws x .count)
     net-answer ws n =
-        ap (λ (q : Question). q .answer) (sym (gone-on (λ r. question (asked.Refused r) m) o k ws (questionLines o x y m) (questionDone ws x y m) (net-is-checked o k ws n) refl))
+        ap (λ (q : QuestionOutcome). q .answer) (sym (gone-on (λ r. questionOutcome (asked.Refused r) m) o k ws (questionClauses o x y m) (questionDone ws x y m) (net-is-checked o k ws n) refl))
         ∙ at (badPair o (o + k) x y) (ltb (length m) (o + k))
       where
         at : (p q : Bool)
-            → cond p (question (asked.Refused BadQuestion) m)
-            (cond q (question (asked.Refused ShortBuffer) m) (readAt y (fullScan (o + k) ws x) (drop (o + k) m))) .answer
+            → cond p (questionOutcome (asked.Refused BadQuestion) m)
+            (cond q (questionOutcome (asked.Refused ShortBuffer) m) (readAt y (fullScan (o + k) ws x) (drop (o + k) m))) .answer
             ≡ answer p q (byte o k ws x y) (fullScan (o + k) ws x .count)
         at true q = refl
         at false true = refl

@@ -10,10 +10,10 @@ use Rattle.theory.specs.Support.{Supported}
 use Rattle.theory.specs.Marks.{mark, link, links, command, round, blank, markerOf, At}
 use Rattle.theory.specs.Scans.{after, same, rounds}
 use Rattle.theory.proofs.Inside.{legal-links}
-use Rattle.theory.proofs.Joining.{ends}
+use Rattle.theory.proofs.support.Joining.{ends}
 use Rattle.net.specs.Legal.{legalPrefix}
 use Rattle.net.specs.Table.{checkNet}
-use Rattle.scan.specs.Table.{Outcome, forwardScanned}
+use Rattle.scan.specs.Table.{ScanOutcome, forwardScanned}
 use Rattle.scan.specs.declared.Scanned.the-variants as scanned
 
 -- One object, one kind, no words: the scan from the object leaves T on it.
@@ -32,4 +32,4 @@ not-itself p = let e = ends 1 1 (Links []) (legal-links 1 1 [] no-words) 0 0 is 
 pub objects-say-nothing : ((o k : ℕ) (ws : List ℕ) (x budget : ℕ) (m : List ℕ) (count : ℕ) → forwardScanned o k ws x budget m .answer ≡ scanned.Done count
     → (y : ℕ) → y < o + k → (s : Sign) → At (forwardScanned o k ws x budget m .marks) (markerOf s) y ↔ Supported o k (Links ws) x y s) → ⊥
 objects-say-nothing f =
-    not-itself (f 1 1 [] 0 1 (blank 2) 1 (ap (λ (r : Outcome). r .answer) on-itself) 0 (omega arith) is .0 (rw on-itself refl))
+    not-itself (f 1 1 [] 0 1 (blank 2) 1 (ap (λ (r : ScanOutcome). r .answer) on-itself) 0 (omega arith) is .0 (rw on-itself refl))

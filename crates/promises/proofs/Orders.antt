@@ -13,20 +13,20 @@ use Rattle.theory.specs.Nets.{Net}
 use Rattle.theory.specs.Marks.{forward, kindly, forwardStart, kindStart}
 use Rattle.theory.specs.Scans.{Scan, rounds}
 use Rattle.theory.proofs.Inside.{legal-inside}
-use Rattle.theory.proofs.Order.{Among, rounds-order}
-use Rattle.theory.proofs.Starts.{forward-long, kind-long, forward-puts-8, kindly-puts-8}
+use Rattle.theory.proofs.machine.Order.{AllIn, rounds-order}
+use Rattle.theory.proofs.machine.Starts.{forward-long, kind-long, forward-puts-8, kindly-puts-8}
 use Rattle.net.specs.Table.{badPair}
 use Rattle.net.proofs.NetCheck.{net-is-checked}
-use Rattle.scan.specs.Table.{Outcome, outcome, badStart, scanLines, scanDone, scanTable, forwardScanned, kindScanned}
+use Rattle.scan.specs.Table.{ScanOutcome, scanOutcome, badStart, scanClauses, scanDone, scanTable, forwardScanned, kindScanned}
 use Rattle.scan.specs.declared.Scanned.the-variants as scanned
-use Rattle.scan.proofs.Outcomes.{over, scan-over}
+use Rattle.scan.proofs.Outcomes.{scanEnd, scan-end}
 use Rattle.scan_start.specs.Starts.{start}
 use Rattle.scan_round.specs.Turns.{commands}
-use Rattle.net.specs.Lines.{call}
+use Rattle.net.specs.Clauses.{call}
 use Rattle.net.specs.declared.Refusal.{Refusal}
 use Rattle.net.proofs.OnNet.{gone-on}
 use Rattle.net.proofs.Good.{good-pair}
-use Rattle.question.specs.Table.{Question, question, questionLines, questionDone, questioned, readAt}
+use Rattle.question.specs.Table.{QuestionOutcome, questionOutcome, questionClauses, questionDone, questioned, readAt}
 use Rattle.question.specs.declared.Asked.the-variants as asked
 
 -- The same after two tests, where it is the same if the first does not apply.
@@ -35,7 +35,7 @@ after-tests true b u v e = refl
 after-tests false true u v e = refl
 after-tests false false u v e = e refl
 
-module _ (o k : ℕ) (ws vs : List ℕ) (n : Net o k ws) (p : Net o k vs) (to : Among ws vs) (from : Among vs ws) where
+module _ (o k : ℕ) (ws vs : List ℕ) (n : Net o k ws) (p : Net o k vs) (to : AllIn ws vs) (from : AllIn vs ws) where
   -- The rounds of a forward scan and of a kind scan.
   pub forward-same : (x budget : ℕ) → x < o + k → rounds forward ws 0 budget (forwardStart (o + k) x) ≡ rounds forward vs 0 budget (forwardStart (o + k) x)
   forward-same x budget h =
@@ -52,12 +52,12 @@ module _ (o k : ℕ) (ws vs : List ℕ) (n : Net o k ws) (p : Net o k vs) (to : 
       → (badStart kind o (o + k) x ≡ false → rounds (commands kind) ws 0 budget (start kind (o + k) x) ≡ rounds (commands kind) vs 0 budget (start kind (o + k) x))
       → call (scanTable kind o k ws x budget m) (scanDone kind ws x budget m (o + k)) ≡ call (scanTable kind o k vs x budget m) (scanDone kind vs x budget m (o + k))
   scan-same kind x budget m f =
-      let over-past : Scan → Outcome = λ s. over (record { done = s .done; count = s .count; marks = s .marks ++ drop (o + k) m }) in
-      let refused : Refusal → Outcome = λ r. outcome (scanned.Refused r) m in
-      sym (gone-on refused o k ws (scanLines kind o ws x budget m) (scanDone kind ws x budget m) (net-is-checked o k ws n) refl)
+      let over-past : Scan → ScanOutcome = λ s. scanEnd (record { done = s .done; count = s .count; marks = s .marks ++ drop (o + k) m }) in
+      let refused : Refusal → ScanOutcome = λ r. scanOutcome (scanned.Refused r) m in
+      sym (gone-on refused o k ws (scanClauses kind o ws x budget m) (scanDone kind ws x budget m) (net-is-checked o k ws n) refl)
       ∙ after-tests (badStart kind o (o + k) x) (ltb (length m) (o + k)) _ _
-      (λ e. sym (scan-over (commands kind) ws (start kind (o + k) x) budget (drop (o + k) m)) ∙ ap over-past (f e) ∙ scan-over (commands kind) vs (start kind (o + k) x) budget (drop (o + k) m))
-      ∙ gone-on refused o k vs (scanLines kind o vs x budget m) (scanDone kind vs x budget m) (net-is-checked o k vs p) refl
+      (λ e. sym (scan-end (commands kind) ws (start kind (o + k) x) budget (drop (o + k) m)) ∙ ap over-past (f e) ∙ scan-end (commands kind) vs (start kind (o + k) x) budget (drop (o + k) m))
+      ∙ gone-on refused o k vs (scanClauses kind o vs x budget m) (scanDone kind vs x budget m) (net-is-checked o k vs p) refl
 
   -- The forward scan, its count among it.
   pub forward-order : (x budget : ℕ) (m : List ℕ) → forwardScanned o k ws x budget m ≡ forwardScanned o k vs x budget m
@@ -70,8 +70,8 @@ module _ (o k : ℕ) (ws vs : List ℕ) (n : Net o k ws) (p : Net o k vs) (to : 
   -- The question.
   pub question-order : (x y : ℕ) (m : List ℕ) → questioned o k ws x y m ≡ questioned o k vs x y m
   question-order x y m =
-      let refused : Refusal → Question = λ r. question (asked.Refused r) m in
-      sym (gone-on refused o k ws (questionLines o x y m) (questionDone ws x y m) (net-is-checked o k ws n) refl)
+      let refused : Refusal → QuestionOutcome = λ r. questionOutcome (asked.Refused r) m in
+      sym (gone-on refused o k ws (questionClauses o x y m) (questionDone ws x y m) (net-is-checked o k ws n) refl)
       ∙ after-tests (badPair o (o + k) x y) (ltb (length m) (o + k)) _ _
       (λ e. ap (λ (s : Scan). readAt y s (drop (o + k) m)) (forward-same x (2 * (o + k)) (good-pair o (o + k) x y .0 e .node)))
-      ∙ gone-on refused o k vs (questionLines o x y m) (questionDone vs x y m) (net-is-checked o k vs p) refl
+      ∙ gone-on refused o k vs (questionClauses o x y m) (questionDone vs x y m) (net-is-checked o k vs p) refl

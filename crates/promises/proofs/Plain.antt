@@ -13,12 +13,12 @@ use Rattle.theory.specs.Nets.{Kind, Net}
 use Rattle.theory.specs.Marks.{forward, kindly, forwardStart, kindStart}
 use Rattle.theory.specs.Scans.{Count}
 use Rattle.net.specs.Legal.{legalPrefix}
-use Rattle.net.specs.Lines.{Line, line}
+use Rattle.net.specs.Clauses.{Clause, clause}
 use Rattle.net.specs.Table.{checkNet}
 use Rattle.net.proofs.NetCheck.{FirstIllegal}
 use Rattle.scan.specs.Table.{forwardScanned, kindScanned}
-use Rattle.theory.specs.Completion.{Completed, complete}
-use Rattle.theory.proofs.Completing.{complete-completed, completed-unique}
+use Rattle.theory.specs.Completion.{Lists, complete}
+use Rattle.theory.proofs.completion.Completing.{complete-lists, lists-unique}
 use Rattle.clash.specs.Table.{clashedBy}
 use Rattle.completion.specs.Table.{completedBy}
 use Rattle.promises.specs.Numbers.{checkedNumber, scanNumber, clashNumber, completionNumber}
@@ -26,7 +26,7 @@ use Rattle.promises.specs.Tables.{Obeys}
 use Rattle.promises.specs.Clashing.{ClashAt}
 use Rattle.promises.proofs.Clashes.{some-clash-exactly}
 use Rattle.promises.proofs.Demand1.{net-obeys, forward-obeys, kind-obeys, clash-obeys, completion-obeys}
-use Rattle.promises.proofs.Tests.{line-1, line-2, line-3, past-line-3, node-exactly, line-4-start, kind-exactly, line-4-kind, line-5, within-exactly, line-6, line-7-clash, line-8}
+use Rattle.promises.proofs.Tests.{clause-1, clause-2, clause-3, past-clause-3, node-exactly, clause-4-start, kind-exactly, clause-4-kind, clause-5, within-exactly, clause-6, clause-7-clash, clause-8}
 
 -- One way of saying it, then another.
 pub then : {A B C : Type 0} → A ↔ B → B ↔ C → A ↔ C
@@ -47,12 +47,12 @@ first-only f = ((λ p. f .0 (p .0)), λ b. (f .1 b, refl))
 pub at-least : (a b : ℕ) → (ltb a b ≡ false) ↔ (b ≤ a)
 at-least a b = (ltb-false a b, le-ltb a b)
 
--- Past lines 1, 2 and 3 there is a net.
+-- Past clauses 1, 2 and 3 there is a net.
 pub over-net : (o k : ℕ) (ws : List ℕ) {D E : Type 0} → (Net o k ws → D ↔ E)
     → ((ltb nodeLimit (o + k) ≡ false) × ((ltb wordLimit (length ws) ≡ false) × ((ltb (legalPrefix o (o + k) ws) (length ws) ≡ false) × D))) ↔ (Net o k ws × E)
 over-net o k ws f = (
-  (λ p. let net = past-line-3 o k ws .0 (p .0, p .1 .0, p .1 .1 .0) in (net, f net .0 (p .1 .1 .1))),
-  λ p. let t = past-line-3 o k ws .1 (p .0) in (t .0, (t .1, (t .2, f (p .0) .1 (p .1)))),
+  (λ p. let net = past-clause-3 o k ws .0 (p .0, p .1 .0, p .1 .1 .0) in (net, f net .0 (p .1 .1 .1))),
+  λ p. let t = past-clause-3 o k ws .1 (p .0) in (t .0, (t .1, (t .2, f (p .0) .1 (p .1)))),
 )
 
 pub past-net : (o k : ℕ) (ws : List ℕ) {D E : Type 0} → D ↔ E
@@ -60,19 +60,19 @@ pub past-net : (o k : ℕ) (ws : List ℕ) {D E : Type 0} → D ↔ E
 past-net o k ws f = over-net o k ws (λ net. f)
 
 -- Numbers 1, 2 and 3 of every operation on a net.
-module _ {A : Type 0} {number : A → ℕ} {a b c : A} {rest : List (Line A)} {done r : A} (o k : ℕ) (ws : List ℕ)
-    (h : Obeys number (line 1 (ltb nodeLimit (o + k)) a ∷ line 2 (ltb wordLimit (length ws)) b ∷ line 3 (ltb (legalPrefix o (o + k) ws) (length ws)) c ∷ rest) done r) where
+module _ {A : Type 0} {number : A → ℕ} {a b c : A} {rest : List (Clause A)} {done r : A} (o k : ℕ) (ws : List ℕ)
+    (h : Obeys number (clause 1 (ltb nodeLimit (o + k)) a ∷ clause 2 (ltb wordLimit (length ws)) b ∷ clause 3 (ltb (legalPrefix o (o + k) ws) (length ws)) c ∷ rest) done r) where
   -- 1: there are more than 1,024 nodes.
   pub number-1 : (number r ≡ 1) ↔ (1024 < o + k)
-  number-1 = then (h .exactly 1) (line-1 o k ws)
+  number-1 = then (h .exactly 1) (clause-1 o k ws)
 
   -- 2: the nodes are few enough, and there are more than 2,097,152 words.
   pub number-2 : (number r ≡ 2) ↔ ((o + k ≤ 1024) × (2097152 < length ws))
-  number-2 = then (h .exactly 2) (both (at-least nodeLimit (o + k)) (line-2 o k ws))
+  number-2 = then (h .exactly 2) (both (at-least nodeLimit (o + k)) (clause-2 o k ws))
 
   -- 3: nodes and words are few enough, and there is a first illegal word.
   pub number-3 : (number r ≡ 3) ↔ ((o + k ≤ 1024) × ((length ws ≤ 2097152) × FirstIllegal o k ws (legalPrefix o (o + k) ws)))
-  number-3 = then (h .exactly 3) (both (at-least nodeLimit (o + k)) (both (at-least wordLimit (length ws)) (line-3 o k ws)))
+  number-3 = then (h .exactly 3) (both (at-least nodeLimit (o + k)) (both (at-least wordLimit (length ws)) (clause-3 o k ws)))
 
 -- ── the check of a net ──
 
@@ -91,8 +91,8 @@ module _ (o k : ℕ) (ws : List ℕ) where
   -- 0: it is a net.
   pub net-0 : (checkedNumber (checkNet o k ws) ≡ 0) ↔ Net o k ws
   net-0 = then (net-obeys o k ws .exactly 0) (
-    (λ p. past-line-3 o k ws .0 (p .0, p .1 .0, p .1 .1 .0)),
-    λ net. let t = past-line-3 o k ws .1 net in (t .0, (t .1, (t .2, refl))),
+    (λ p. past-clause-3 o k ws .0 (p .0, p .1 .0, p .1 .1 .0)),
+    λ net. let t = past-clause-3 o k ws .1 net in (t .0, (t .1, (t .2, refl))),
   )
 
 -- ── the kind scan ──
@@ -111,18 +111,18 @@ module _ (o k : ℕ) (ws : List ℕ) (y budget : ℕ) (m : List ℕ) where
 
   -- 4: over a net, the start is no kind.
   pub kind-4 : (scanNumber (kindScanned o k ws y budget m) ≡ 4) ↔ (Net o k ws × (Kind o k y → ⊥))
-  kind-4 = then (kind-obeys o k ws y budget m .exactly 4) (past-net o k ws (line-4-kind o k ws y))
+  kind-4 = then (kind-obeys o k ws y budget m .exactly 4) (past-net o k ws (clause-4-kind o k ws y))
 
   -- 5: over a net and from a kind, the marks are too short.
   pub kind-5 : (scanNumber (kindScanned o k ws y budget m) ≡ 5) ↔ (Net o k ws × (Kind o k y × (length m < o + k)))
-  kind-5 = then (kind-obeys o k ws y budget m .exactly 5) (past-net o k ws (both (kind-exactly o k ws y) (line-5 o k ws m)))
+  kind-5 = then (kind-obeys o k ws y budget m .exactly 5) (past-net o k ws (both (kind-exactly o k ws y) (clause-5 o k ws m)))
 
   module _ (c : ℕ) (count : Count kindly ws (kindStart (o + k) y) c) where
     -- 6: nothing else is wrong, and the count c is above the budget.
     pub kind-6 : (scanNumber (kindScanned o k ws y budget m) ≡ 6) ↔ (Net o k ws × (Kind o k y × ((o + k ≤ length m) × (budget < c))))
     kind-6 =
         then (kind-obeys o k ws y budget m .exactly 6)
-        (past-net o k ws (both (kind-exactly o k ws y) (both (at-least (length m) (o + k)) (line-6 kindly ws (kindStart (o + k) y) budget c count))))
+        (past-net o k ws (both (kind-exactly o k ws y) (both (at-least (length m) (o + k)) (clause-6 kindly ws (kindStart (o + k) y) budget c count))))
 
     -- 0: nothing is wrong, and the count is within the budget.
     pub kind-0 : (scanNumber (kindScanned o k ws y budget m) ≡ 0) ↔ (Net o k ws × (Kind o k y × ((o + k ≤ length m) × (c ≤ budget))))
@@ -146,18 +146,18 @@ module _ (o k : ℕ) (ws : List ℕ) (x budget : ℕ) (m : List ℕ) where
 
   -- 4: over a net, the start is no node.
   pub forward-4 : (scanNumber (forwardScanned o k ws x budget m) ≡ 4) ↔ (Net o k ws × (x < o + k → ⊥))
-  forward-4 = then (forward-obeys o k ws x budget m .exactly 4) (past-net o k ws (line-4-start o k ws x))
+  forward-4 = then (forward-obeys o k ws x budget m .exactly 4) (past-net o k ws (clause-4-start o k ws x))
 
   -- 5: over a net and from a node, the marks are too short.
   pub forward-5 : (scanNumber (forwardScanned o k ws x budget m) ≡ 5) ↔ (Net o k ws × ((x < o + k) × (length m < o + k)))
-  forward-5 = then (forward-obeys o k ws x budget m .exactly 5) (past-net o k ws (both (node-exactly o k ws x) (line-5 o k ws m)))
+  forward-5 = then (forward-obeys o k ws x budget m .exactly 5) (past-net o k ws (both (node-exactly o k ws x) (clause-5 o k ws m)))
 
   module _ (c : ℕ) (count : Count forward ws (forwardStart (o + k) x) c) where
     -- 6: nothing else is wrong, and the count c is above the budget.
     pub forward-6 : (scanNumber (forwardScanned o k ws x budget m) ≡ 6) ↔ (Net o k ws × ((x < o + k) × ((o + k ≤ length m) × (budget < c))))
     forward-6 =
         then (forward-obeys o k ws x budget m .exactly 6)
-        (past-net o k ws (both (node-exactly o k ws x) (both (at-least (length m) (o + k)) (line-6 forward ws (forwardStart (o + k) x) budget c count))))
+        (past-net o k ws (both (node-exactly o k ws x) (both (at-least (length m) (o + k)) (clause-6 forward ws (forwardStart (o + k) x) budget c count))))
 
     -- 0: nothing is wrong, and the count is within the budget.
     pub forward-0 : (scanNumber (forwardScanned o k ws x budget m) ≡ 0) ↔ (Net o k ws × ((x < o + k) × ((o + k ≤ length m) × (c ≤ budget))))
@@ -180,11 +180,11 @@ module _ (o k : ℕ) (ws m : List ℕ) where
 
   -- 5: over a net, the marks are too short.
   pub clash-5 : (clashNumber (clashedBy o k ws m) ≡ 5) ↔ (Net o k ws × (length m < o + k))
-  clash-5 = then (clash-obeys o k ws m .exactly 5) (past-net o k ws (line-5 o k ws m))
+  clash-5 = then (clash-obeys o k ws m .exactly 5) (past-net o k ws (clause-5 o k ws m))
 
   -- 7: over a net and with marks long enough, no object clashes.
   pub clash-7 : (clashNumber (clashedBy o k ws m) ≡ 7) ↔ (Net o k ws × ((o + k ≤ length m) × ((x y : ℕ) → ClashAt o k ws x y → ⊥)))
-  clash-7 = then (clash-obeys o k ws m .exactly 7) (over-net o k ws (λ n. both (at-least (length m) (o + k)) (line-7-clash o k ws n)))
+  clash-7 = then (clash-obeys o k ws m .exactly 7) (over-net o k ws (λ n. both (at-least (length m) (o + k)) (clause-7-clash o k ws n)))
 
   -- 0: over a net and with marks long enough, some object clashes.
   pub clash-0 : (clashNumber (clashedBy o k ws m) ≡ 0) ↔ (Net o k ws × ((o + k ≤ length m) × ((x : ℕ) × (y : ℕ) × ClashAt o k ws x y)))
@@ -206,19 +206,19 @@ module _ (o k : ℕ) (ws m l : List ℕ) where
 
   -- 5: over a net, the marks are too short.
   pub completion-5 : (completionNumber (completedBy o k ws m l) ≡ 5) ↔ (Net o k ws × (length m < o + k))
-  completion-5 = then (completion-obeys o k ws m l .exactly 5) (past-net o k ws (line-5 o k ws m))
+  completion-5 = then (completion-obeys o k ws m l .exactly 5) (past-net o k ws (clause-5 o k ws m))
 
   -- The supported words are those of `out`.
-  module _ (out : List ℕ) (words : Completed o k ws out) where
+  module _ (out : List ℕ) (words : Lists o k ws out) where
     size : Net o k ws → length (complete o k ws) ≡ length out
-    size n = ap (length {A = ℕ}) (completed-unique o k ws (complete o k ws) out (complete-completed o k ws n) words)
+    size n = ap (length {A = ℕ}) (lists-unique o k ws (complete o k ws) out (complete-lists o k ws n) words)
 
     -- 8: over a net and with marks long enough, the list is shorter than the supported words.
     pub completion-8 : (completionNumber (completedBy o k ws m l) ≡ 8) ↔ (Net o k ws × ((o + k ≤ length m) × (length l < length out)))
     completion-8 = then (completion-obeys o k ws m l .exactly 8) (over-net o k ws (λ n. both (at-least (length m) (o + k)) (short n)))
       where
         short : Net o k ws → (ltb (length l) (length (complete o k ws)) ≡ true) ↔ (length l < length out)
-        short n = subst (λ (i : ℕ). (ltb (length l) (length (complete o k ws)) ≡ true) ↔ (length l < i)) (size n) (line-8 l (complete o k ws))
+        short n = subst (λ (i : ℕ). (ltb (length l) (length (complete o k ws)) ≡ true) ↔ (length l < i)) (size n) (clause-8 l (complete o k ws))
 
     -- 0: over a net, both have room for what goes there.
     pub completion-0 : (completionNumber (completedBy o k ws m l) ≡ 0) ↔ (Net o k ws × ((o + k ≤ length m) × (length out ≤ length l)))

@@ -14,9 +14,9 @@ use Rattle.theory.specs.Support.{Supported}
 use Rattle.theory.specs.Reasons.{written, never}
 use Rattle.theory.specs.Searches.{distances}
 use Rattle.theory.proofs.Inside.{legal-links}
-use Rattle.theory.proofs.Lemma1.{lemma1}
-use Rattle.theory.proofs.Repeats.{strict-shows}
-use Rattle.theory.proofs.Shortest.{shortest-unique}
+use Rattle.theory.proofs.support.Lemma1.{lemma1}
+use Rattle.theory.proofs.reason.Repeats.{strict-shows}
+use Rattle.theory.proofs.reason.Shortest.{shortest-unique}
 use Rattle.net.specs.Legal.{legalPrefix}
 use Rattle.net.specs.Good.{GoodPair, GoodStatement}
 use Rattle.net.proofs.NetCheck.{FirstIllegal}
@@ -27,7 +27,7 @@ use Rattle.reason_check.specs.Table.{verdict}
 use Rattle.promises.specs.Numbers.{questionNumber, reasonNumber, verdictNumber}
 use Rattle.promises.specs.Reasoning.{ReasonOf}
 use Rattle.promises.proofs.Demand1.{question-obeys, reason-obeys, check-obeys}
-use Rattle.promises.proofs.Tests.{line-4-pair, line-4-statement, line-5, line-5-scratch, supported-exactly, line-7-reason}
+use Rattle.promises.proofs.Tests.{clause-4-pair, clause-4-statement, clause-5, clause-5-scratch, supported-exactly, clause-7-reason}
 use Rattle.promises.proofs.Plain.{then, and-then, both, first-only, at-least, over-net, past-net, number-1, number-2, number-3}
 use Rattle.promises.proofs.Reasoning.{reason-of}
 
@@ -47,11 +47,11 @@ module _ (o k : ℕ) (ws : List ℕ) (x y : ℕ) (m : List ℕ) where
 
   -- 4: over a net, it is not so that x is a node and y a kind.
   pub question-4 : (questionNumber (questioned o k ws x y m) ≡ 4) ↔ (Net o k ws × (GoodPair o (o + k) x y → ⊥))
-  question-4 = then (question-obeys o k ws x y m .exactly 4) (past-net o k ws (line-4-pair o k ws x y))
+  question-4 = then (question-obeys o k ws x y m .exactly 4) (past-net o k ws (clause-4-pair o k ws x y))
 
   -- 5: over a net and of a node and a kind, the marks are too short.
   pub question-5 : (questionNumber (questioned o k ws x y m) ≡ 5) ↔ (Net o k ws × (GoodPair o (o + k) x y × (length m < o + k)))
-  question-5 = then (question-obeys o k ws x y m .exactly 5) (past-net o k ws (both (good-pair o (o + k) x y) (line-5 o k ws m)))
+  question-5 = then (question-obeys o k ws x y m .exactly 5) (past-net o k ws (both (good-pair o (o + k) x y) (clause-5 o k ws m)))
 
   -- 0: nothing is wrong.
   pub question-0 : (questionNumber (questioned o k ws x y m) ≡ 0) ↔ (Net o k ws × (GoodPair o (o + k) x y × (o + k ≤ length m)))
@@ -75,11 +75,11 @@ module _ (o k : ℕ) (ws : List ℕ) (x y sign : ℕ) (d l : List ℕ) where
 
   -- 4: over a net, it is not so that x is a node, y a kind, and the sign 0 or 1.
   pub reason-4 : (reasonNumber (reasoned o k ws x y sign d l) ≡ 4) ↔ (Net o k ws × (GoodStatement o (o + k) x y sign → ⊥))
-  reason-4 = then (reason-obeys o k ws x y sign d l .exactly 4) (past-net o k ws (line-4-statement o k ws x y sign))
+  reason-4 = then (reason-obeys o k ws x y sign d l .exactly 4) (past-net o k ws (clause-4-statement o k ws x y sign))
 
   -- 5: over a net and of a good statement, the scratch has less than 2N places.
   pub reason-5 : (reasonNumber (reasoned o k ws x y sign d l) ≡ 5) ↔ (Net o k ws × (GoodStatement o (o + k) x y sign × (length d < 2 * (o + k))))
-  reason-5 = then (reason-obeys o k ws x y sign d l .exactly 5) (past-net o k ws (both (good-statement o (o + k) x y sign) (line-5-scratch o k ws d)))
+  reason-5 = then (reason-obeys o k ws x y sign d l .exactly 5) (past-net o k ws (both (good-statement o (o + k) x y sign) (clause-5-scratch o k ws d)))
 
   -- The scratch has 2N places.
   room : (ltb (length d) ((o + k) + (o + k)) ≡ false) ↔ (2 * (o + k) ≤ length d)
@@ -91,7 +91,7 @@ module _ (o k : ℕ) (ws : List ℕ) (x y sign : ℕ) (d l : List ℕ) where
   reason-7 =
       then (reason-obeys o k ws x y sign d l .exactly 7)
       (over-net o k ws (λ net. and-then (good-statement o (o + k) x y sign)
-      (λ g. both room (line-7-reason o k ws net x (g .pair .node) y (good-kind (g .pair)) (signAt sign)))))
+      (λ g. both room (clause-7-reason o k ws net x (g .pair .node) y (good-kind (g .pair)) (signAt sign)))))
 
   module _ (net : Net o k ws) (g : GoodStatement o (o + k) x y sign) where
     -- No second number of places is the shortest reason's.
@@ -108,7 +108,7 @@ module _ (o k : ℕ) (ws : List ℕ) (x y sign : ℕ) (d l : List ℕ) where
         lemma1 o k (Links ws) (legal-links o k ws (net .legal)) x y (signAt sign) .1
         (r .xs, r .ys, strict-shows o k (Links ws) x y (signAt sign) (r .xs) (r .ys) (good-kind (g .pair)) (r .shortest .path))
 
-    -- Past line 7 there is a shortest reason, and its places are those of the reason computed.
+    -- Past clause 7 there is a shortest reason, and its places are those of the reason computed.
     has : (P : ℕ → Type 0) {D : Type 0} → D ↔ P (length (reasonOf ws x y sign (o + k)))
         → ((eqb (getD (distances (o + k) (signAt sign) ws y) x never) never ≡ false) × D) ↔ ((size : ℕ) × ReasonOf o k ws x y sign size × P size)
     has P {D} f = (there, back)
@@ -156,7 +156,7 @@ module _ (o k : ℕ) (ws : List ℕ) (x y sign : ℕ) (l : List ℕ) where
 
   -- 4: over a net, it is not so that x is a node, y a kind, and the sign 0 or 1.
   pub check-4 : (verdictNumber (verdict o k ws x y sign l) ≡ 4) ↔ (Net o k ws × (GoodStatement o (o + k) x y sign → ⊥))
-  check-4 = then (check-obeys o k ws x y sign l .exactly 4) (past-net o k ws (line-4-statement o k ws x y sign))
+  check-4 = then (check-obeys o k ws x y sign l .exactly 4) (past-net o k ws (clause-4-statement o k ws x y sign))
 
   -- 0: nothing of that is wrong. Which lists hold and which fail is in `Reasoning`.
   pub check-0 : (verdictNumber (verdict o k ws x y sign l) ≡ 0) ↔ (Net o k ws × GoodStatement o (o + k) x y sign)

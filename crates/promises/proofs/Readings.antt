@@ -7,11 +7,11 @@ use Rattle.theory.specs.Marks.{mark, link, links, command, round}
 use Rattle.theory.specs.Scans.{after, same, rounds}
 use Rattle.theory.specs.Completion.{row, rows, complete}
 use Rattle.theory.specs.Searches.{arcs, level, levels, distances, next, descend, reasonStates, firsts, reasonList}
-use Rattle.theory.proofs.Rounds.{same-eq}
+use Rattle.theory.proofs.machine.Rounds.{same-eq}
 use Rattle.net.specs.Legal.{legalPrefix}
 use Rattle.net.specs.Table.{checkNet}
 use Rattle.clash.specs.Table.{firstBoth, firstClash}
-use Rattle.promises.specs.Readings.{Entry, readings, allAgree}
+use Rattle.promises.specs.Readings.{Reading, readings, allAgree}
 
 -- The statements give every reading as the paper has it.
 pub all-agree : allAgree readings ≡ true
@@ -19,11 +19,11 @@ unfolding allAgree same checkNet legalPrefix after firstBoth firstClash rounds r
 all-agree = refl
 
 -- Where all entries of a table agree, each is an equation.
-agreeing : (es : List Entry) → allAgree es ≡ true → (e : Entry) → List·Memᴰ e es → e .gives ≡ e .paper
+agreeing : (es : List Reading) → allAgree es ≡ true → (e : Reading) → List·Memᴰ e es → e .gives ≡ e .paper
 unfolding allAgree
 agreeing (a ∷ es) h e (List·Memᴰ·head p) = rw p (same-eq (a .gives) (a .paper) (and-left (same (a .gives) (a .paper)) (allAgree es) h))
 agreeing (a ∷ es) h e (List·Memᴰ·tail m) = agreeing es (and-right (same (a .gives) (a .paper)) (allAgree es) h) e m
 
 -- So each reading is what the paper says.
-pub each-reading : (e : Entry) → List·Memᴰ e readings → e .gives ≡ e .paper
+pub each-reading : (e : Reading) → List·Memᴰ e readings → e .gives ≡ e .paper
 each-reading = agreeing readings all-agree

@@ -7,31 +7,31 @@ use native.Mathlib.Omega.{arith}
 use lib.Dec.{eqb}
 use lib.ListN.{length, getD, drop, List·getD-append}
 use borrow.Author.Tests.{ltb-true, ltb-false}
-use Rattle.theory_laws.proofs.Booleans.{clash}
+use Rattle.theory_laws.proofs.Booleans.{contradiction}
 use Rattle.theory.specs.Words.{Sign, signAt}
 use Rattle.theory.specs.Nets.{Kind, Links, Net}
 use Rattle.theory.specs.Support.{Supported}
 use Rattle.theory.specs.Reasons.{written, never, Moves, goal, Distance}
 use Rattle.theory.specs.Searches.{distances}
 use Rattle.theory.specs.Checks.{Passes, passes}
-use Rattle.theory.proofs.Distances.{distances-length, distances-right}
-use Rattle.theory.proofs.Reason.{reason-exactly, reason-shortest}
-use Rattle.theory.proofs.Check.{passes-exactly, passes-supported}
+use Rattle.theory.proofs.reason.Distances.{distances-length, distances-right}
+use Rattle.theory.proofs.reason.Reason.{reason-exactly, reason-shortest}
+use Rattle.theory.proofs.reason.Check.{passes-exactly, passes-supported}
 use Rattle.net.specs.Table.{badStatement}
 use Rattle.net.specs.declared.Refusal.{Refusal}
 use Rattle.net.proofs.Good.{good-statement, good-kind}
-use Rattle.reason.specs.Table.{Reason, filled, reasonOf, reasoned, reasonedRow}
+use Rattle.reason.specs.Table.{ReasonOutcome, filled, reasonOf, reasoned, reasonedReply}
 use Rattle.reason.specs.declared.Reasoned.{Reasoned}
 use Rattle.reason.specs.declared.Reasoned.the-variants as reasonedAs
-use Rattle.reason_check.specs.Table.{verdict, verdictRow}
+use Rattle.reason_check.specs.Table.{verdict, verdictReply}
 use Rattle.reason_check.specs.declared.Verdict.{Verdict}
 use Rattle.reason_check.specs.declared.Verdict.the-variants.{Holds, Fails}
 use Rattle.promises.specs.Engines.{ours}
 use Rattle.promises.specs.Reasoning.{ReasonOf, Reasoning}
 use Rattle.promises.proofs.Demand1.{reason-obeys, check-obeys}
-use Rattle.promises.proofs.Tests.{past-line-3, supported-exactly, line-7-reason}
+use Rattle.promises.proofs.Tests.{past-clause-3, supported-exactly, clause-7-reason}
 
--- What a statement asked about is, where line 4 does not apply.
+-- What a statement asked about is, where clause 4 does not apply.
 module _ (o k x y sign : ℕ) (e : badStatement o (o + k) x y sign ≡ false) where
   pub node-of : x < o + k
   node-of = good-statement o (o + k) x y sign .0 e .pair .node
@@ -66,20 +66,20 @@ module _ (o k : ℕ) (ws : List ℕ) (x y sign : ℕ) where
         → Found size × (reasoned o k ws x y sign d l .list ≡ reasonOf ws x y sign (o + k) ++ drop size l) × (size ≤ length l)
         × (reasoned o k ws x y sign d l .scratch ≡ filled ws y sign d (o + k))
     found size e =
-        let u = reason-obeys o k ws x y sign d l .exactly 0 .0 (ap (λ (r : Reasoned). reasonedRow r .number) e) in
+        let u = reason-obeys o k ws x y sign d l .exactly 0 .0 (ap (λ (r : Reasoned). reasonedReply r .number) e) in
         let q = reason-obeys o k ws x y sign d l .leaves 0 u in
-        let z : length (reasonOf ws x y sign (o + k)) ≡ size = ap (λ (r : Reasoned). reasonedRow r .first) (sym (ap (λ (r : Reason). r .answer) q) ∙ e) in
+        let z : length (reasonOf ws x y sign (o + k)) ≡ size = ap (λ (r : Reasoned). reasonedReply r .first) (sym (ap (λ (r : ReasonOutcome). r .answer) q) ∙ e) in
         let room = ltb-false (length l) (length (reasonOf ws x y sign (o + k))) (u .1 .1 .1 .1 .1 .1 .0) in (
           record {
-            net = past-line-3 o k ws .0 (u .0, u .1 .0, u .1 .1 .0);
+            net = past-clause-3 o k ws .0 (u .0, u .1 .0, u .1 .1 .0);
             node = node-of o k x y sign (u .1 .1 .1 .0);
             kind = kind-of o k x y sign (u .1 .1 .1 .0);
             some = u .1 .1 .1 .1 .1 .0;
             size-is = z;
           },
-          ap (λ (r : Reason). r .list) q ∙ ap (λ (n : ℕ). reasonOf ws x y sign (o + k) ++ drop n l) z,
+          ap (λ (r : ReasonOutcome). r .list) q ∙ ap (λ (n : ℕ). reasonOf ws x y sign (o + k) ++ drop n l) z,
           omega arith,
-          ap (λ (r : Reason). r .scratch) q,
+          ap (λ (r : ReasonOutcome). r .scratch) q,
         )
 
     reason-done : (size : ℕ) → reasoned o k ws x y sign d l .answer ≡ reasonedAs.Done size
@@ -101,18 +101,18 @@ module _ (o k : ℕ) (ws : List ℕ) (x y sign : ℕ) where
         at : (a : Reasoned) → reasoned o k ws x y sign d l .answer ≡ a → Scratched
         at (reasonedAs.Done size) e = let (f, list, room, scratch) = found size e in record { net = f .net; kind = f .kind; filled-by = scratch }
         at reasonedAs.Unsupported e =
-            let u = reason-obeys o k ws x y sign d l .exactly 7 .0 (ap (λ (r : Reasoned). reasonedRow r .number) e) in
+            let u = reason-obeys o k ws x y sign d l .exactly 7 .0 (ap (λ (r : Reasoned). reasonedReply r .number) e) in
             record {
-              net = past-line-3 o k ws .0 (u .0, u .1 .0, u .1 .1 .0);
+              net = past-clause-3 o k ws .0 (u .0, u .1 .0, u .1 .1 .0);
               kind = kind-of o k x y sign (u .1 .1 .1 .0);
-              filled-by = ap (λ (r : Reason). r .scratch) (reason-obeys o k ws x y sign d l .leaves 7 u);
+              filled-by = ap (λ (r : ReasonOutcome). r .scratch) (reason-obeys o k ws x y sign d l .leaves 7 u);
             }
         at (reasonedAs.Short size) e =
-            let u = reason-obeys o k ws x y sign d l .exactly 8 .0 (ap (λ (r : Reasoned). reasonedRow r .number) e) in
+            let u = reason-obeys o k ws x y sign d l .exactly 8 .0 (ap (λ (r : Reasoned). reasonedReply r .number) e) in
             record {
-              net = past-line-3 o k ws .0 (u .0, u .1 .0, u .1 .1 .0);
+              net = past-clause-3 o k ws .0 (u .0, u .1 .0, u .1 .1 .0);
               kind = kind-of o k x y sign (u .1 .1 .1 .0);
-              filled-by = ap (λ (r : Reason). r .scratch) (reason-obeys o k ws x y sign d l .leaves 8 u);
+              filled-by = ap (λ (r : ReasonOutcome). r .scratch) (reason-obeys o k ws x y sign d l .leaves 8 u);
             }
         at (reasonedAs.Refused r) e = absurd (h r e)
 
@@ -127,43 +127,43 @@ module _ (o k : ℕ) (ws : List ℕ) (x y sign : ℕ) where
 
     reason-unsupported : reasoned o k ws x y sign d l .answer ≡ reasonedAs.Unsupported → Supported o k (Links ws) x y s → ⊥
     reason-unsupported e =
-        let u = reason-obeys o k ws x y sign d l .exactly 7 .0 (ap (λ (r : Reasoned). reasonedRow r .number) e) in
-        line-7-reason o k ws (past-line-3 o k ws .0 (u .0, u .1 .0, u .1 .1 .0)) x (node-of o k x y sign (u .1 .1 .1 .0)) y (kind-of o k x y sign (u .1 .1 .1 .0)) s .0 (u .1 .1 .1 .1 .1)
+        let u = reason-obeys o k ws x y sign d l .exactly 7 .0 (ap (λ (r : Reasoned). reasonedReply r .number) e) in
+        clause-7-reason o k ws (past-clause-3 o k ws .0 (u .0, u .1 .0, u .1 .1 .0)) x (node-of o k x y sign (u .1 .1 .1 .0)) y (kind-of o k x y sign (u .1 .1 .1 .0)) s .0 (u .1 .1 .1 .1 .1)
 
     reason-short : (size : ℕ) → reasoned o k ws x y sign d l .answer ≡ reasonedAs.Short size → ReasonOf o k ws x y sign size × (length l < size)
     reason-short size e =
-        let u = reason-obeys o k ws x y sign d l .exactly 8 .0 (ap (λ (r : Reasoned). reasonedRow r .number) e) in
+        let u = reason-obeys o k ws x y sign d l .exactly 8 .0 (ap (λ (r : Reasoned). reasonedReply r .number) e) in
         let q = reason-obeys o k ws x y sign d l .leaves 8 u in
-        let z : length (reasonOf ws x y sign (o + k)) ≡ size = ap (λ (r : Reasoned). reasonedRow r .first) (sym (ap (λ (r : Reason). r .answer) q) ∙ e) in
-        let net = past-line-3 o k ws .0 (u .0, u .1 .0, u .1 .1 .0) in
+        let z : length (reasonOf ws x y sign (o + k)) ≡ size = ap (λ (r : Reasoned). reasonedReply r .first) (sym (ap (λ (r : ReasonOutcome). r .answer) q) ∙ e) in
+        let net = past-clause-3 o k ws .0 (u .0, u .1 .0, u .1 .1 .0) in
         let less : length l < length (reasonOf ws x y sign (o + k)) = ltb-true (length l) (length (reasonOf ws x y sign (o + k))) (u .1 .1 .1 .1 .1 .1) in
         (reason-of net (node-of o k x y sign (u .1 .1 .1 .0)) (kind-of o k x y sign (u .1 .1 .1 .0)) (u .1 .1 .1 .1 .1 .0) size z .0, omega arith)
 
   module _ (l : List ℕ) where
     -- A check that was not refused: over a net, about a kind, and its verdict is the test's.
-    checked : verdictRow (verdict o k ws x y sign l) .number ≡ 0 → Net o k ws × Kind o k y × (verdict o k ws x y sign l ≡ cond (passes o k ws x y s l) Holds Fails)
+    checked : verdictReply (verdict o k ws x y sign l) .number ≡ 0 → Net o k ws × Kind o k y × (verdict o k ws x y sign l ≡ cond (passes o k ws x y s l) Holds Fails)
     checked e =
         let u = check-obeys o k ws x y sign l .exactly 0 .0 e in
-        (past-line-3 o k ws .0 (u .0, u .1 .0, u .1 .1 .0), kind-of o k x y sign (u .1 .1 .1 .0), check-obeys o k ws x y sign l .leaves 0 u)
+        (past-clause-3 o k ws .0 (u .0, u .1 .0, u .1 .1 .0), kind-of o k x y sign (u .1 .1 .1 .0), check-obeys o k ws x y sign l .leaves 0 u)
 
     -- Which verdict it was tells the test.
     was-true : (q : Bool) → Holds ≡ cond q Holds Fails → q ≡ true
     was-true true e = refl
-    was-true false e = clash (ap (λ (r : Verdict). eqb (verdictRow r .first) 0) e)
+    was-true false e = contradiction (ap (λ (r : Verdict). eqb (verdictReply r .first) 0) e)
 
     was-false : (q : Bool) → Fails ≡ cond q Holds Fails → q ≡ false
-    was-false true e = clash (sym (ap (λ (r : Verdict). eqb (verdictRow r .first) 0) e))
+    was-false true e = contradiction (sym (ap (λ (r : Verdict). eqb (verdictReply r .first) 0) e))
     was-false false e = refl
 
     check-holds : verdict o k ws x y sign l ≡ Holds → Net o k ws × Passes o k ws x y s l
     check-holds e =
-        let (net, kind, v) = checked (ap (λ (r : Verdict). verdictRow r .number) e) in
+        let (net, kind, v) = checked (ap (λ (r : Verdict). verdictReply r .number) e) in
         (net, passes-exactly o k ws x y s l kind .0 (was-true (passes o k ws x y s l) (sym e ∙ v)))
 
     check-fails : verdict o k ws x y sign l ≡ Fails → Passes o k ws x y s l → ⊥
     check-fails e p =
-        let (net, kind, v) = checked (ap (λ (r : Verdict). verdictRow r .number) e) in
-        clash (sym (was-false (passes o k ws x y s l) (sym e ∙ v)) ∙ passes-exactly o k ws x y s l kind .1 p)
+        let (net, kind, v) = checked (ap (λ (r : Verdict). verdictReply r .number) e) in
+        contradiction (sym (was-false (passes o k ws x y s l) (sym e ∙ v)) ∙ passes-exactly o k ws x y s l kind .1 p)
 
 -- Our engine keeps what is promised of reasons.
 pub reasoning : Reasoning ours

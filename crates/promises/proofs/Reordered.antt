@@ -10,47 +10,47 @@ use lib.Dec.{eqb, ltb}
 use lib.ListN.{length, getD, drop}
 use lib.Seq.{ext-getD}
 use Rattle.theory_laws.proofs.Booleans.{same-test}
-use Rattle.theory.specs.Words.{Sign, is, isnt, number, signAt}
+use Rattle.theory.specs.Words.{Sign, is, isnt, signNumber, signAt}
 use Rattle.theory.specs.Nets.{Kind, Links, Net}
 use Rattle.theory.specs.Scans.{Scan}
 use Rattle.theory.specs.Completion.{fullMarks, rows, complete}
-use Rattle.theory.specs.Reasons.{Moves, up, over, down, goal, never}
+use Rattle.theory.specs.Reasons.{Moves, up, across, down, goal, never}
 use Rattle.theory.specs.Searches.{distances, reasonStates}
 use Rattle.theory.specs.Checks.{listed, allSteps, passes}
-use Rattle.theory.proofs.Order.{Among}
-use Rattle.theory.proofs.Best.{best-unique}
-use Rattle.theory.proofs.Distances.{distance-into, distance-unique, distances-length, distances-right}
-use Rattle.theory.proofs.Reason.{best-into, states-best}
-use Rattle.theory.proofs.Steps.{listed-exactly}
-use Rattle.net.specs.Lines.{call}
+use Rattle.theory.proofs.machine.Order.{AllIn}
+use Rattle.theory.proofs.reason.Best.{best-unique}
+use Rattle.theory.proofs.reason.Distances.{distance-into, distance-unique, distances-length, distances-right}
+use Rattle.theory.proofs.reason.Reason.{best-into, states-best}
+use Rattle.theory.proofs.reason.Steps.{listed-exactly}
+use Rattle.net.specs.Clauses.{call}
 use Rattle.net.specs.Table.{badStatement}
 use Rattle.net.specs.declared.Refusal.{Refusal}
 use Rattle.net.proofs.NetCheck.{net-is-checked}
 use Rattle.net.proofs.OnNet.{gone-on}
-use Rattle.clash.specs.Table.{Clash, clash, clashNodes, firstClash, clashSearch, clashLines, clashDone, clashedBy}
+use Rattle.clash.specs.Table.{ClashOutcome, clashOutcome, clashNodes, firstClash, clashSearch, clashClauses, clashDone, clashedBy}
 use Rattle.clash.specs.declared.Clashed.{Clashed}
 use Rattle.clash.specs.declared.Clashed.the-variants as clashed
-use Rattle.completion.specs.Table.{Completion, completion, completionLines, completionDone, completedBy}
+use Rattle.completion.specs.Table.{CompletionOutcome, completionOutcome, completionClauses, completionDone, completedBy}
 use Rattle.completion.specs.declared.Completed.the-variants as completed
-use Rattle.reason.specs.Table.{Reason, reason, filled, reasonOf, foundLines, foundDone, reasonLines, reasonDone, reasoned}
+use Rattle.reason.specs.Table.{ReasonOutcome, reasonOutcome, filled, reasonOf, foundClauses, foundDone, reasonClauses, reasonDone, reasoned}
 use Rattle.reason.specs.declared.Reasoned.the-variants as reasonedAs
-use Rattle.reason_check.specs.Table.{checkLines, checkDone, verdict}
+use Rattle.reason_check.specs.Table.{checkClauses, checkDone, verdict}
 use Rattle.reason_check.specs.declared.Verdict.the-variants as verdictAs
 use Rattle.promises.proofs.Orders.{after-tests, forward-same}
 use Rattle.promises.proofs.Reasoning.{node-of, kind-of, near}
 
 -- What a list of words links, and each move along a link, a list with those words has too.
-module _ (ws vs : List ℕ) (to : Among ws vs) where
+module _ (ws vs : List ℕ) (to : AllIn ws vs) where
   links-into : (x y : ℕ) (s : Sign) → Links ws x y s → Links vs x y s
   links-into x y s l = record { it = l .it; listed = to (l .it) (l .listed); tail = l .tail; head = l .head; sign = l .sign }
 
   moves-into : (n : ℕ) (s : Sign) (a b : ℕ) → Moves n (Links ws) s a b → Moves n (Links vs) s a b
   moves-into n s a b (up l) = up (links-into a b is l)
-  moves-into n s a b (over c e (inl l)) = over c e (inl (links-into a c isnt l))
-  moves-into n s a b (over c e (inr l)) = over c e (inr (links-into c a isnt l))
+  moves-into n s a b (across c e (inl l)) = across c e (inl (links-into a c isnt l))
+  moves-into n s a b (across c e (inr l)) = across c e (inr (links-into c a isnt l))
   moves-into n s a b (down c d p q l) = down c d p q (links-into d c is l)
 
-module _ (o k : ℕ) (ws vs : List ℕ) (n : Net o k ws) (p : Net o k vs) (to : Among ws vs) (from : Among vs ws) where
+module _ (o k : ℕ) (ws vs : List ℕ) (n : Net o k ws) (p : Net o k vs) (to : AllIn ws vs) (from : AllIn vs ws) where
   -- A full forward scan from a node leaves the same marks.
   full-same : (x : ℕ) → x < o + k → fullMarks o k ws x ≡ fullMarks o k vs x
   full-same x h = ap (λ (s : Scan). s .marks) (forward-same o k ws vs n p to from x (2 * (o + k)) h)
@@ -68,10 +68,10 @@ module _ (o k : ℕ) (ws vs : List ℕ) (n : Net o k ws) (p : Net o k vs) (to : 
   -- The completion.
   pub completion-order : (m l : List ℕ) → completedBy o k ws m l ≡ completedBy o k vs m l
   completion-order m l =
-      let refused : Refusal → Completion = λ r. completion (completed.Refused r) m l in
-      sym (gone-on refused o k ws (completionLines (complete o k ws) m l) (completionDone (complete o k ws) m l) (net-is-checked o k ws n) refl)
-      ∙ ap (λ (all : List ℕ). call (completionLines all m l (o + k)) (completionDone all m l (o + k))) complete-same
-      ∙ gone-on refused o k vs (completionLines (complete o k vs) m l) (completionDone (complete o k vs) m l) (net-is-checked o k vs p) refl
+      let refused : Refusal → CompletionOutcome = λ r. completionOutcome (completed.Refused r) m l in
+      sym (gone-on refused o k ws (completionClauses (complete o k ws) m l) (completionDone (complete o k ws) m l) (net-is-checked o k ws n) refl)
+      ∙ ap (λ (all : List ℕ). call (completionClauses all m l (o + k)) (completionDone all m l (o + k))) complete-same
+      ∙ gone-on refused o k vs (completionClauses (complete o k vs) m l) (completionDone (complete o k vs) m l) (net-is-checked o k vs p) refl
 
   -- So is the first clash.
   first-same : (x j : ℕ) → x + j ≤ o + k → firstClash o k ws x j ≡ firstClash o k vs x j
@@ -82,10 +82,10 @@ module _ (o k : ℕ) (ws vs : List ℕ) (n : Net o k ws) (p : Net o k vs) (to : 
   -- The clash test.
   pub clash-order : (m : List ℕ) → clashedBy o k ws m ≡ clashedBy o k vs m
   clash-order m =
-      let refused : Refusal → Clash = λ r. clash (clashed.Refused r) m in
-      sym (gone-on refused o k ws (clashLines (clashSearch o k ws) m) (clashDone (clashSearch o k ws) m) (net-is-checked o k ws n) refl)
-      ∙ ap (λ (found : Clashed). call (clashLines found m (o + k)) (clashDone found m (o + k))) (first-same 0 (clashNodes o k) (omega arith))
-      ∙ gone-on refused o k vs (clashLines (clashSearch o k vs) m) (clashDone (clashSearch o k vs) m) (net-is-checked o k vs p) refl
+      let refused : Refusal → ClashOutcome = λ r. clashOutcome (clashed.Refused r) m in
+      sym (gone-on refused o k ws (clashClauses (clashSearch o k ws) m) (clashDone (clashSearch o k ws) m) (net-is-checked o k ws n) refl)
+      ∙ ap (λ (found : Clashed). call (clashClauses found m (o + k)) (clashDone found m (o + k))) (first-same 0 (clashNodes o k) (omega arith))
+      ∙ gone-on refused o k vs (clashClauses (clashSearch o k vs) m) (clashDone (clashSearch o k vs) m) (net-is-checked o k vs p) refl
 
   module _ (y : ℕ) (kind : Kind o k y) (s : Sign) where
     -- The scratch is the same: each place has one right value.
@@ -105,9 +105,9 @@ module _ (o k : ℕ) (ws vs : List ℕ) (n : Net o k ws) (p : Net o k vs) (to : 
         (states-best o k ws n x node y kind s h))
         (states-best o k vs p x node y kind s (rw distances-same at h))
 
-  -- Lines 7, 8 and 0 over the distances t, where a is the reason.
-  abbrev found : ℕ → List ℕ → List ℕ → List ℕ → List ℕ → Reason
-  found x t a past l = call (foundLines x t a past l) (foundDone a past l)
+  -- Numbers 7, 8 and 0 over the distances t, where a is the reason.
+  abbrev found : ℕ → List ℕ → List ℕ → List ℕ → List ℕ → ReasonOutcome
+  found x t a past l = call (foundClauses x t a past l) (foundDone a past l)
 
   -- A search over a good statement leaves the same.
   searched-same : (x y sign : ℕ) (d l : List ℕ) → badStatement o (o + k) x y sign ≡ false
@@ -132,15 +132,15 @@ module _ (o k : ℕ) (ws vs : List ℕ) (n : Net o k ws) (p : Net o k vs) (to : 
   -- The reason.
   pub reason-order : (x y sign : ℕ) (d l : List ℕ) → reasoned o k ws x y sign d l ≡ reasoned o k vs x y sign d l
   reason-order x y sign d l =
-      let refused : Refusal → Reason = λ r. reason (reasonedAs.Refused r) d l in
-      sym (gone-on refused o k ws (reasonLines o ws x y sign d l) (reasonDone ws x y sign d l) (net-is-checked o k ws n) refl)
+      let refused : Refusal → ReasonOutcome = λ r. reasonOutcome (reasonedAs.Refused r) d l in
+      sym (gone-on refused o k ws (reasonClauses o ws x y sign d l) (reasonDone ws x y sign d l) (net-is-checked o k ws n) refl)
       ∙ after-tests (badStatement o (o + k) x y sign) (ltb (length d) ((o + k) + (o + k))) _ _ (searched-same x y sign d l)
-      ∙ gone-on refused o k vs (reasonLines o vs x y sign d l) (reasonDone vs x y sign d l) (net-is-checked o k vs p) refl
+      ∙ gone-on refused o k vs (reasonClauses o vs x y sign d l) (reasonDone vs x y sign d l) (net-is-checked o k vs p) refl
 
   -- The tests of the reason check are the same: of one link, of all steps, of the list.
-  listed-same : (x y : ℕ) (s : Sign) → listed x y (number s) ws ≡ listed x y (number s) vs
+  listed-same : (x y : ℕ) (s : Sign) → listed x y (signNumber s) ws ≡ listed x y (signNumber s) vs
   listed-same x y s =
-      same-test (listed x y (number s) ws) (listed x y (number s) vs)
+      same-test (listed x y (signNumber s) ws) (listed x y (signNumber s) vs)
       (λ e. listed-exactly x y s vs .1 (links-into ws vs to x y s (listed-exactly x y s ws .0 e)))
       (λ e. listed-exactly x y s ws .1 (links-into vs ws from x y s (listed-exactly x y s vs .0 e)))
 
@@ -159,6 +159,6 @@ module _ (o k : ℕ) (ws vs : List ℕ) (n : Net o k ws) (p : Net o k vs) (to : 
   -- The reason check.
   pub check-order : (x y sign : ℕ) (l : List ℕ) → verdict o k ws x y sign l ≡ verdict o k vs x y sign l
   check-order x y sign l =
-      sym (gone-on verdictAs.Refused o k ws (checkLines o x y sign) (λ _. checkDone o k ws x y sign l) (net-is-checked o k ws n) refl)
+      sym (gone-on verdictAs.Refused o k ws (checkClauses o x y sign) (λ _. checkDone o k ws x y sign l) (net-is-checked o k ws n) refl)
       ∙ rw (passes-same x y (signAt sign) l)
-      (gone-on verdictAs.Refused o k vs (checkLines o x y sign) (λ _. checkDone o k vs x y sign l) (net-is-checked o k vs p) refl)
+      (gone-on verdictAs.Refused o k vs (checkClauses o x y sign) (λ _. checkDone o k vs x y sign l) (net-is-checked o k vs p) refl)

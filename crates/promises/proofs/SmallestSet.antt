@@ -4,7 +4,7 @@ use mathlib.Core.Logic.{_↔_}
 use Rattle.theory.specs.Words.{Sign}
 use Rattle.theory.specs.Nets.{Statements}
 use Rattle.theory.specs.Support.{Supported}
-use Rattle.theory.proofs.Smallest.{closed, smallest}
+use Rattle.theory.proofs.support.Smallest.{closed, smallest}
 use Rattle.promises.specs.Demand2.{Smallest}
 
 -- The supported set is the smallest.

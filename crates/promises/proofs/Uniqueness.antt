@@ -6,22 +6,22 @@ use mathlib.Core.List.{List, _++_}
 use lib.ListN.{length, drop}
 use Rattle.net.specs.Table.{checkNet}
 use Rattle.net.specs.declared.Checked.{Checked}
-use Rattle.scan.specs.Table.{Outcome, outcome, forwardScanned, kindScanned}
+use Rattle.scan.specs.Table.{ScanOutcome, scanOutcome, forwardScanned, kindScanned}
 use Rattle.scan.specs.declared.Scanned.{Scanned}
-use Rattle.question.specs.Table.{Question, question, questioned}
-use Rattle.clash.specs.Table.{Clash, clash, clashedBy}
+use Rattle.question.specs.Table.{QuestionOutcome, questionOutcome, questioned}
+use Rattle.clash.specs.Table.{ClashOutcome, clashOutcome, clashedBy}
 use Rattle.question.specs.declared.Asked.{Asked}
 use Rattle.clash.specs.declared.Clashed.{Clashed}
-use Rattle.completion.specs.Table.{Completion, completion, completedBy}
+use Rattle.completion.specs.Table.{CompletionOutcome, completionOutcome, completedBy}
 use Rattle.completion.specs.declared.Completed.{Completed}
-use Rattle.reason.specs.Table.{Reason, reason, reasoned}
+use Rattle.reason.specs.Table.{ReasonOutcome, reasonOutcome, reasoned}
 use Rattle.reason.specs.declared.Reasoned.{Reasoned}
 use Rattle.reason_check.specs.Table.{verdict}
 use Rattle.reason_check.specs.declared.Verdict.{Verdict}
 use Rattle.netfile.specs.Contents.{contentsOf, bodiesOf}
 use Rattle.netfile.specs.declared.Contents.{Contents}
 use Rattle.ask_text.specs.Text.{textOf}
-use Rattle.net.specs.Lines.{Line}
+use Rattle.net.specs.Clauses.{Clause}
 use Rattle.promises.specs.Tables.{Obeys}
 
 -- Two things that are both a third are one.
@@ -29,50 +29,50 @@ both-are : {A : Type 0} {s : A} (a b : A) → a ≡ s → b ≡ s → a ≡ b
 both-are a b e f = e ∙ sym f
 
 -- A number table leaves one outcome: two that obey it are the same, so demand 1 alone fixes what each operation gives and leaves.
-pub obeys-unique : {A : Type 0} (number : A → ℕ) (ls : List (Line A)) (done r q : A) → Obeys number ls done r → Obeys number ls done q → r ≡ q
+pub obeys-unique : {A : Type 0} (number : A → ℕ) (ls : List (Clause A)) (done r q : A) → Obeys number ls done r → Obeys number ls done q → r ≡ q
 obeys-unique number ls done r q a b = let d = a .exactly (number r) .0 refl in both-are r q (a .leaves (number r) d) (b .leaves (number r) d)
 
 -- Two outcomes of a scan that are one have one answer and one list of marks.
-scan-parts : (r q : Scanned) (m l : List ℕ) → outcome r m ≡ outcome q l → (r ≡ q) × (m ≡ l)
-scan-parts r q m l e = (ap (λ (s : Outcome). s .answer) e, ap (λ (s : Outcome). s .marks) e)
+scan-parts : (r q : Scanned) (m l : List ℕ) → scanOutcome r m ≡ scanOutcome q l → (r ≡ q) × (m ≡ l)
+scan-parts r q m l e = (ap (λ (s : ScanOutcome). s .answer) e, ap (λ (s : ScanOutcome). s .marks) e)
 
 module _ (o k : ℕ) (ws : List ℕ) where
   -- The forward scan: r and q answers, m and l the marks left.
   pub forward-unique : (x budget : ℕ) (marks : List ℕ) (r q : Scanned) (m l : List ℕ)
-      → outcome r m ≡ forwardScanned o k ws x budget marks → outcome q l ≡ forwardScanned o k ws x budget marks → (r ≡ q) × (m ≡ l)
-  forward-unique x budget marks r q m l e f = scan-parts r q m l (both-are (outcome r m) (outcome q l) e f)
+      → scanOutcome r m ≡ forwardScanned o k ws x budget marks → scanOutcome q l ≡ forwardScanned o k ws x budget marks → (r ≡ q) × (m ≡ l)
+  forward-unique x budget marks r q m l e f = scan-parts r q m l (both-are (scanOutcome r m) (scanOutcome q l) e f)
 
   -- The kind scan.
   pub kind-unique : (y budget : ℕ) (marks : List ℕ) (r q : Scanned) (m l : List ℕ)
-      → outcome r m ≡ kindScanned o k ws y budget marks → outcome q l ≡ kindScanned o k ws y budget marks → (r ≡ q) × (m ≡ l)
-  kind-unique y budget marks r q m l e f = scan-parts r q m l (both-are (outcome r m) (outcome q l) e f)
+      → scanOutcome r m ≡ kindScanned o k ws y budget marks → scanOutcome q l ≡ kindScanned o k ws y budget marks → (r ≡ q) × (m ≡ l)
+  kind-unique y budget marks r q m l e f = scan-parts r q m l (both-are (scanOutcome r m) (scanOutcome q l) e f)
 
   -- The question.
   pub question-unique : (x y : ℕ) (marks : List ℕ) (r q : Asked) (m l : List ℕ)
-      → question r m ≡ questioned o k ws x y marks → question q l ≡ questioned o k ws x y marks → (r ≡ q) × (m ≡ l)
+      → questionOutcome r m ≡ questioned o k ws x y marks → questionOutcome q l ≡ questioned o k ws x y marks → (r ≡ q) × (m ≡ l)
   question-unique x y marks r q m l e f =
-      let p = both-are (question r m) (question q l) e f in
-      (ap (λ (s : Question). s .answer) p, ap (λ (s : Question). s .marks) p)
+      let p = both-are (questionOutcome r m) (questionOutcome q l) e f in
+      (ap (λ (s : QuestionOutcome). s .answer) p, ap (λ (s : QuestionOutcome). s .marks) p)
 
   -- The clash test.
-  pub clash-unique : (marks : List ℕ) (r q : Clashed) (m l : List ℕ) → clash r m ≡ clashedBy o k ws marks → clash q l ≡ clashedBy o k ws marks → (r ≡ q) × (m ≡ l)
+  pub clash-unique : (marks : List ℕ) (r q : Clashed) (m l : List ℕ) → clashOutcome r m ≡ clashedBy o k ws marks → clashOutcome q l ≡ clashedBy o k ws marks → (r ≡ q) × (m ≡ l)
   clash-unique marks r q m l e f =
-      let p = both-are (clash r m) (clash q l) e f in
-      (ap (λ (s : Clash). s .answer) p, ap (λ (s : Clash). s .marks) p)
+      let p = both-are (clashOutcome r m) (clashOutcome q l) e f in
+      (ap (λ (s : ClashOutcome). s .answer) p, ap (λ (s : ClashOutcome). s .marks) p)
 
   -- The completion: m and l the marks, c and d the lists left.
   pub completion-unique : (marks list : List ℕ) (r q : Completed) (m l c d : List ℕ)
-      → completion r m c ≡ completedBy o k ws marks list → completion q l d ≡ completedBy o k ws marks list → (r ≡ q) × (m ≡ l) × (c ≡ d)
+      → completionOutcome r m c ≡ completedBy o k ws marks list → completionOutcome q l d ≡ completedBy o k ws marks list → (r ≡ q) × (m ≡ l) × (c ≡ d)
   completion-unique marks list r q m l c d e f =
-      let p = both-are (completion r m c) (completion q l d) e f in
-      (ap (λ (s : Completion). s .answer) p, ap (λ (s : Completion). s .marks) p, ap (λ (s : Completion). s .list) p)
+      let p = both-are (completionOutcome r m c) (completionOutcome q l d) e f in
+      (ap (λ (s : CompletionOutcome). s .answer) p, ap (λ (s : CompletionOutcome). s .marks) p, ap (λ (s : CompletionOutcome). s .list) p)
 
   -- The reason: m and l the scratches, c and d the lists left.
   pub reason-unique : (x y sign : ℕ) (scratch list : List ℕ) (r q : Reasoned) (m l c d : List ℕ)
-      → reason r m c ≡ reasoned o k ws x y sign scratch list → reason q l d ≡ reasoned o k ws x y sign scratch list → (r ≡ q) × (m ≡ l) × (c ≡ d)
+      → reasonOutcome r m c ≡ reasoned o k ws x y sign scratch list → reasonOutcome q l d ≡ reasoned o k ws x y sign scratch list → (r ≡ q) × (m ≡ l) × (c ≡ d)
   reason-unique x y sign scratch list r q m l c d e f =
-      let p = both-are (reason r m c) (reason q l d) e f in
-      (ap (λ (s : Reason). s .answer) p, ap (λ (s : Reason). s .scratch) p, ap (λ (s : Reason). s .list) p)
+      let p = both-are (reasonOutcome r m c) (reasonOutcome q l d) e f in
+      (ap (λ (s : ReasonOutcome). s .answer) p, ap (λ (s : ReasonOutcome). s .scratch) p, ap (λ (s : ReasonOutcome). s .list) p)
 
   -- The reason check, which is lent nothing to write to.
   pub check-unique : (x y sign : ℕ) (list : List ℕ) (r q : Verdict) → r ≡ verdict o k ws x y sign list → q ≡ verdict o k ws x y sign list → r ≡ q

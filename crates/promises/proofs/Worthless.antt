@@ -9,21 +9,21 @@ use lib.Dec.{eqb}
 use lib.ListN.{length, getD}
 use borrow.Author.Tests.{le-ltb}
 use Rattle.theory.specs.NetM.{M}
-use Rattle.theory_laws.proofs.Booleans.{clash}
+use Rattle.theory_laws.proofs.Booleans.{contradiction}
 use Rattle.theory.specs.Words.{isnt, wordLimit}
 use Rattle.theory.specs.Nets.{Net}
 use Rattle.theory.specs.Support.{r1}
 use Rattle.theory.specs.Marks.{F, has, mark, link, links, command, round, forward, forwardStart, blank}
 use Rattle.theory.specs.Scans.{after, same, rounds, Count}
-use Rattle.theory.proofs.Budgets.{count-unique}
-use Rattle.theory.proofs.Loss.{nought-is-not-four}
+use Rattle.theory.proofs.machine.Budgets.{count-unique}
+use Rattle.theory.proofs.machine.Loss.{nought-is-not-four}
 use Rattle.net.specs.Legal.{legalPrefix}
 use Rattle.net.specs.Table.{checkNet}
 use Rattle.net.specs.declared.Refusal.{Refusal}
-use Rattle.net.proofs.Rows.{refusal-not}
-use Rattle.scan.specs.Table.{Outcome, outcome, forwardScanned}
+use Rattle.net.proofs.Replies.{refusal-not}
+use Rattle.scan.specs.Table.{ScanOutcome, scanOutcome, forwardScanned}
 use Rattle.scan.specs.declared.Scanned.the-variants as scanned
-use Rattle.question.specs.Table.{askedRow}
+use Rattle.question.specs.Table.{askedReply}
 use Rattle.question.specs.declared.Answer.the-variants.{None}
 use Rattle.question.specs.declared.Asked.{Asked}
 use Rattle.question.specs.declared.Asked.the-variants as asked
@@ -34,13 +34,13 @@ use Rattle.promises.specs.Demand1.{Demand1}
 use Rattle.promises.specs.Demand2.{Demand2}
 use Rattle.promises.specs.Demand3.{CompletesTo, Joined, Demand3}
 use Rattle.promises.specs.Worthless.{refuser, denier, copier, inventor, hastyLinks, hastyRound, hastyRounds, hasty}
-use Rattle.promises.proofs.Tests.{past-line-3}
+use Rattle.promises.proofs.Tests.{past-clause-3}
 use Rattle.promises.proofs.Demand2.{demand-2}
 use Rattle.promises.proofs.Demand3.{completes-once}
 
 -- ── one that refuses all calls ──
 
--- One kind, no words, question (0, 0), one byte of marks: no line applies.
+-- One kind, no words, question (0, 0), one byte of marks: no clause applies.
 nothing-wrong : Due 0 (questionTable 0 1 [] 0 0 (blank 1))
 unfolding legalPrefix
 nothing-wrong = (refl, (refl, (refl, (refl, (refl, refl)))))
@@ -48,9 +48,9 @@ nothing-wrong = (refl, (refl, (refl, (refl, (refl, refl)))))
 -- An engine that refuses that question breaks demand 1.
 pub refusing-breaks : (e : Engine) (r : Refusal) → e .question 0 1 [] 0 0 (blank 1) .answer ≡ asked.Refused r → Demand1 e → ⊥
 refusing-breaks e r h d =
-    clash
+    contradiction
     (sym (refusal-not r 0 (inl refl))
-    ∙ ap (λ (n : ℕ). eqb n 0) (sym (ap (λ (a : Asked). askedRow a .number) h) ∙ d .question 0 1 [] 0 0 (blank 1) .exactly 0 .1 nothing-wrong))
+    ∙ ap (λ (n : ℕ). eqb n 0) (sym (ap (λ (a : Asked). askedReply a .number) h) ∙ d .question 0 1 [] 0 0 (blank 1) .exactly 0 .1 nothing-wrong))
 
 -- So the engine that refuses all calls does, whatever refusal it gives.
 pub refuser-breaks : (r : Refusal) → Demand1 (refuser r) → ⊥
@@ -65,7 +65,7 @@ denies = refl
 
 -- But 0 ↛ 4 is supported: an engine that answers none to that question breaks demand 2.
 pub denying-breaks : (e : Engine) (count : ℕ) → e .question 2 4 M 0 4 (blank 6) .answer ≡ asked.Done None count → Demand2 e → ⊥
-denying-breaks e count h d = clash (d .question 2 4 M 0 4 (blank 6) None count h isnt .1 nought-is-not-four)
+denying-breaks e count h d = contradiction (d .question 2 4 M 0 4 (blank 6) None count h isnt .1 nought-is-not-four)
 
 -- So the engine that answers none to every question does.
 pub denier-breaks : Demand2 denier → ⊥
@@ -75,7 +75,7 @@ denier-breaks = denying-breaks denier 5 denies
 
 -- It completes every net to itself, and to nothing else.
 copies : (o k : ℕ) (ws : List ℕ) → Net o k ws → CompletesTo copier o k ws ws
-copies o k ws n m l h i = let t = past-line-3 o k ws .1 n in rw (t .0, t .1, t .2, le-ltb (length m) (o + k) h, le-ltb (length l) (length ws) i)
+copies o k ws n m l h i = let t = past-clause-3 o k ws .1 n in rw (t .0, t .1, t .2, le-ltb (length m) (o + k) h, le-ltb (length l) (length ws) i)
 
 copies-only : (o k : ℕ) (ws out : List ℕ) → Net o k ws → CompletesTo copier o k ws out → ws ≡ out
 copies-only o k ws out n = completes-once copier o k ws ws out (copies o k ws n)
@@ -118,16 +118,16 @@ unfolding round command links link mark
 no-F-yet = refl
 
 -- But 0 ↛ 4 is supported: an engine that leaves the marks of the first round there breaks demand 2, whatever count it reports.
-pub one-round-breaks : (e : Engine) (count : ℕ) → e .forwardScan 2 4 M 0 12 (blank 6) ≡ outcome (scanned.Done count) (round forward M (forwardStart 6 0)) → Demand2 e → ⊥
+pub one-round-breaks : (e : Engine) (count : ℕ) → e .forwardScan 2 4 M 0 12 (blank 6) ≡ scanOutcome (scanned.Done count) (round forward M (forwardStart 6 0)) → Demand2 e → ⊥
 one-round-breaks e count h d =
-    clash
+    contradiction
     (sym no-F-yet
-    ∙ sym (ap (λ (r : Outcome). has F (getD (r .marks) 4 0)) h)
-    ∙ d .forwardScan 2 4 M 0 12 (blank 6) count (ap (λ (r : Outcome). r .answer) h) 4 (record { low = omega arith; high = omega arith }) isnt .1 nought-is-not-four)
+    ∙ sym (ap (λ (r : ScanOutcome). has F (getD (r .marks) 4 0)) h)
+    ∙ d .forwardScan 2 4 M 0 12 (blank 6) count (ap (λ (r : ScanOutcome). r .answer) h) 4 (record { low = omega arith; high = omega arith }) isnt .1 nought-is-not-four)
 
 -- The engine that invents counts leaves these marks.
 stops-early : (invented : ℕ → ℕ → List ℕ → ℕ → ℕ → List ℕ → ℕ)
-    → inventor invented .forwardScan 2 4 M 0 12 (blank 6) ≡ outcome (scanned.Done (invented 2 4 M 0 12 (blank 6))) (round forward M (forwardStart 6 0))
+    → inventor invented .forwardScan 2 4 M 0 12 (blank 6) ≡ scanOutcome (scanned.Done (invented 2 4 M 0 12 (blank 6))) (round forward M (forwardStart 6 0))
 unfolding legalPrefix rounds same round command links link mark
 stops-early invented = refl
 
@@ -173,20 +173,20 @@ invented-count-breaks c = let one : ℕ → ℕ → List ℕ → ℕ → ℕ →
 -- ── one that updates marks inside a command ──
 
 -- Net M, forward from 0: it counts 4 rounds, and the machine 5.
-counts-4 : hasty .forwardScan 2 4 M 0 12 (blank 6) ≡ outcome (scanned.Done 4) (1 ∷ 2 ∷ 1 ∷ 2 ∷ 2 ∷ 2 ∷ [])
+counts-4 : hasty .forwardScan 2 4 M 0 12 (blank 6) ≡ scanOutcome (scanned.Done 4) (1 ∷ 2 ∷ 1 ∷ 2 ∷ 2 ∷ 2 ∷ [])
 unfolding legalPrefix same hastyRounds hastyRound hastyLinks link mark
 counts-4 = refl
 
-counts-5 : forwardScanned 2 4 M 0 12 (blank 6) ≡ outcome (scanned.Done 5) (1 ∷ 2 ∷ 1 ∷ 2 ∷ 2 ∷ 2 ∷ [])
+counts-5 : forwardScanned 2 4 M 0 12 (blank 6) ≡ scanOutcome (scanned.Done 5) (1 ∷ 2 ∷ 1 ∷ 2 ∷ 2 ∷ 2 ∷ [])
 unfolding legalPrefix rounds same round command links link mark
 counts-5 = refl
 
 -- The marks at the end are those of our engine.
 pub hasty-same-marks : hasty .forwardScan 2 4 M 0 12 (blank 6) .marks ≡ forwardScanned 2 4 M 0 12 (blank 6) .marks
-hasty-same-marks = ap (λ (r : Outcome). r .marks) counts-4 ∙ sym (ap (λ (r : Outcome). r .marks) counts-5)
+hasty-same-marks = ap (λ (r : ScanOutcome). r .marks) counts-4 ∙ sym (ap (λ (r : ScanOutcome). r .marks) counts-5)
 
 -- So it breaks demand 2 by its rounds.
 pub hasty-breaks : Demand2 hasty → ⊥
 hasty-breaks =
-    miscounting-breaks hasty 2 4 M 0 12 (blank 6) 4 5 (ap (λ (r : Outcome). r .answer) counts-4)
-    (demand-2 .forwardRounds 2 4 M 0 12 (blank 6) 5 (ap (λ (r : Outcome). r .answer) counts-5) .0) (λ q. omega arith)
+    miscounting-breaks hasty 2 4 M 0 12 (blank 6) 4 5 (ap (λ (r : ScanOutcome). r .answer) counts-4)
+    (demand-2 .forwardRounds 2 4 M 0 12 (blank 6) 5 (ap (λ (r : ScanOutcome). r .answer) counts-5) .0) (λ q. omega arith)

@@ -25,5 +25,5 @@ pub record SmallestClash (o k : ℕ) (ws : List ℕ) (x y : ℕ) : Type 0 where
 pub record Clashing (e : Engine) : Type 0 where
   -- A clash that is given is the smallest one.
   pub at : (o k : ℕ) (ws m : List ℕ) (x y : ℕ) → e .clashTest o k ws m .answer ≡ clashed.At x y → SmallestClash o k ws x y
-  -- Row 7: there is none.
+  -- Number 7: there is none.
   pub nowhere : (o k : ℕ) (ws m : List ℕ) → e .clashTest o k ws m .answer ≡ clashed.Nowhere → (x y : ℕ) → ClashAt o k ws x y → ⊥

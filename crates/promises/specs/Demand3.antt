@@ -8,11 +8,11 @@ use mathlib.Core.Logic.{_↔_}
 use lib.ListN.{length, drop}
 use Rattle.theory.specs.Words.{Sign, tailOf, wordLimit}
 use Rattle.theory.specs.Nets.{Net}
-use Rattle.theory.specs.Completion as theory
+use Rattle.theory.specs.Completion.{Lists}
 use Rattle.scan_start.specs.Starts.{cleared}
 use Rattle.question.specs.declared.Asked.{Asked}
 use Rattle.question.specs.declared.Asked.the-variants as asked
-use Rattle.completion.specs.Table.{completion}
+use Rattle.completion.specs.Table.{completionOutcome}
 use Rattle.completion.specs.declared.Completed.the-variants as completed
 use Rattle.promises.specs.Engines.{Engine}
 use Rattle.promises.specs.Demand2.{says}
@@ -30,7 +30,7 @@ saidBy (asked.Refused r) s = false
 -- The engine completes the words to `out`: whatever it is lent that is long enough, it writes `out` in front of the list, gives its size and clears the marks.
 abbrev pub CompletesTo : Engine → ℕ → ℕ → List ℕ → List ℕ → Type 0
 CompletesTo e o k ws out = (m l : List ℕ) → o + k ≤ length m → length out ≤ length l
-    → e .completion o k ws m l ≡ completion (completed.Done (length out)) (cleared (o + k) m) (out ++ drop (length out) l)
+    → e .completion o k ws m l ≡ completionOutcome (completed.Done (length out)) (cleared (o + k) m) (out ++ drop (length out) l)
 
 -- Two nets that may be joined.
 pub record Joined (o k : ℕ) (ws vs : List ℕ) : Type 0 where
@@ -44,9 +44,9 @@ SameWord e o k ws vs = (x y : ℕ) (m : List ℕ) → wordOf (e .question o k ws
 
 pub record Demand3 (e : Engine) : Type 0 where
   -- A net is completed to its supported words, ascending, none twice, and no others.
-  pub lists : (o k : ℕ) (ws : List ℕ) → Net o k ws → (out : List ℕ) × CompletesTo e o k ws out × theory.Completed o k ws out
+  pub lists : (o k : ℕ) (ws : List ℕ) → Net o k ws → (out : List ℕ) × CompletesTo e o k ws out × Lists o k ws out
   -- Where the list is too short, the number given is the number of supported words.
-  pub needs : (o k : ℕ) (ws m l : List ℕ) (n : ℕ) → e .completion o k ws m l .answer ≡ completed.Short n → (out : List ℕ) → theory.Completed o k ws out
+  pub needs : (o k : ℕ) (ws m l : List ℕ) (n : ℕ) → e .completion o k ws m l .answer ≡ completed.Short n → (out : List ℕ) → Lists o k ws out
       → (n ≡ length out) × (length l < n)
   -- A completed list is completed to itself.
   pub again : (o k : ℕ) (ws out : List ℕ) → Net o k ws → CompletesTo e o k ws out → CompletesTo e o k out out

@@ -5,24 +5,24 @@ use mathlib.Core.List.{List, _++_}
 use Rattle.theory.specs.Scans.{Scan}
 use Rattle.net.specs.Table.{checkNet}
 use Rattle.net.specs.declared.Checked.{Checked}
-use Rattle.scan.specs.Table.{Outcome, outcome, forwardScanned, kindScanned}
+use Rattle.scan.specs.Table.{ScanOutcome, scanOutcome, forwardScanned, kindScanned}
 use Rattle.scan.specs.declared.Scanned.the-variants as scanned
-use Rattle.question.specs.Table.{Question, questioned}
-use Rattle.clash.specs.Table.{Clash, clashedBy}
-use Rattle.completion.specs.Table.{Completion, completedBy}
-use Rattle.reason.specs.Table.{Reason, reasoned}
+use Rattle.question.specs.Table.{QuestionOutcome, questioned}
+use Rattle.clash.specs.Table.{ClashOutcome, clashedBy}
+use Rattle.completion.specs.Table.{CompletionOutcome, completedBy}
+use Rattle.reason.specs.Table.{ReasonOutcome, reasoned}
 use Rattle.reason_check.specs.Table.{verdict}
 use Rattle.reason_check.specs.declared.Verdict.{Verdict}
 
 -- The eight operations on nets, each over objects, kinds, words, what is asked, and the lent buffers as they are at entry.
 pub record Engine : Type 0 where
   pub netCheck : ℕ → ℕ → List ℕ → Checked
-  pub forwardScan : ℕ → ℕ → List ℕ → ℕ → ℕ → List ℕ → Outcome
-  pub kindScan : ℕ → ℕ → List ℕ → ℕ → ℕ → List ℕ → Outcome
-  pub question : ℕ → ℕ → List ℕ → ℕ → ℕ → List ℕ → Question
-  pub clashTest : ℕ → ℕ → List ℕ → List ℕ → Clash
-  pub completion : ℕ → ℕ → List ℕ → List ℕ → List ℕ → Completion
-  pub reason : ℕ → ℕ → List ℕ → ℕ → ℕ → ℕ → List ℕ → List ℕ → Reason
+  pub forwardScan : ℕ → ℕ → List ℕ → ℕ → ℕ → List ℕ → ScanOutcome
+  pub kindScan : ℕ → ℕ → List ℕ → ℕ → ℕ → List ℕ → ScanOutcome
+  pub question : ℕ → ℕ → List ℕ → ℕ → ℕ → List ℕ → QuestionOutcome
+  pub clashTest : ℕ → ℕ → List ℕ → List ℕ → ClashOutcome
+  pub completion : ℕ → ℕ → List ℕ → List ℕ → List ℕ → CompletionOutcome
+  pub reason : ℕ → ℕ → List ℕ → ℕ → ℕ → ℕ → List ℕ → List ℕ → ReasonOutcome
   pub reasonCheck : ℕ → ℕ → List ℕ → ℕ → ℕ → ℕ → List ℕ → Verdict
 
 -- The engine of the operations' own statements.
@@ -39,11 +39,11 @@ ours = record {
 }
 
 -- What another scan leaves, done or spent, with the bytes `past` behind its marks.
-abbrev pub ran : Scan → List ℕ → Outcome
-ran s past = outcome (cond (s .done) (scanned.Done (s .count)) (scanned.Spent (s .count))) (s .marks ++ past)
+abbrev pub ran : Scan → List ℕ → ScanOutcome
+ran s past = scanOutcome (cond (s .done) (scanned.Done (s .count)) (scanned.Spent (s .count))) (s .marks ++ past)
 
 -- Our engine with another forward scan, kind scan, question or completion.
-abbrev pub withForwardScan : (ℕ → ℕ → List ℕ → ℕ → ℕ → List ℕ → Outcome) → Engine
+abbrev pub withForwardScan : (ℕ → ℕ → List ℕ → ℕ → ℕ → List ℕ → ScanOutcome) → Engine
 withForwardScan f = record {
   netCheck = ours .netCheck;
   forwardScan = f;
@@ -55,7 +55,7 @@ withForwardScan f = record {
   reasonCheck = ours .reasonCheck;
 }
 
-abbrev pub withKindScan : (ℕ → ℕ → List ℕ → ℕ → ℕ → List ℕ → Outcome) → Engine
+abbrev pub withKindScan : (ℕ → ℕ → List ℕ → ℕ → ℕ → List ℕ → ScanOutcome) → Engine
 withKindScan f = record {
   netCheck = ours .netCheck;
   forwardScan = ours .forwardScan;
@@ -67,7 +67,7 @@ withKindScan f = record {
   reasonCheck = ours .reasonCheck;
 }
 
-abbrev pub withQuestion : (ℕ → ℕ → List ℕ → ℕ → ℕ → List ℕ → Question) → Engine
+abbrev pub withQuestion : (ℕ → ℕ → List ℕ → ℕ → ℕ → List ℕ → QuestionOutcome) → Engine
 withQuestion f = record {
   netCheck = ours .netCheck;
   forwardScan = ours .forwardScan;
@@ -79,7 +79,7 @@ withQuestion f = record {
   reasonCheck = ours .reasonCheck;
 }
 
-abbrev pub withCompletion : (ℕ → ℕ → List ℕ → List ℕ → List ℕ → Completion) → Engine
+abbrev pub withCompletion : (ℕ → ℕ → List ℕ → List ℕ → List ℕ → CompletionOutcome) → Engine
 withCompletion f = record {
   netCheck = ours .netCheck;
   forwardScan = ours .forwardScan;

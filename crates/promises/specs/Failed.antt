@@ -9,13 +9,13 @@ use Rattle.theory.specs.Scans.{rounds, fullScan}
 use Rattle.theory.specs.Downscan.{downscan}
 use Rattle.theory.specs.declared.Command.{Command}
 use Rattle.net.specs.declared.Refusal.the-variants.{BadQuestion, ShortBuffer}
-use Rattle.scan.specs.Table.{outcome}
+use Rattle.scan.specs.Table.{scanOutcome}
 use Rattle.scan.specs.declared.Scanned.the-variants as scanned
-use Rattle.question.specs.Table.{question, readAt}
+use Rattle.question.specs.Table.{questionOutcome, readAt}
 use Rattle.question.specs.declared.Answer.the-variants.{Yes}
 use Rattle.question.specs.declared.Asked.the-variants as asked
-use Rattle.net.specs.Lines.{line, call}
-use Rattle.net.specs.Table.{netLines}
+use Rattle.net.specs.Clauses.{clause, call}
+use Rattle.net.specs.Table.{netClauses}
 use Rattle.question.specs.Table.{questionTable, questionDone}
 use Rattle.clash.specs.Table.{clashSearch, nowhere}
 use Rattle.promises.specs.Engines.{Engine, ran, withKindScan, withQuestion}
@@ -34,15 +34,15 @@ classical =
     withQuestion (λ o k ws x y m.
     call (questionTable o k ws x y m)
     (cond (nowhere (clashSearch o k ws)) (questionDone ws x y m (o + k))
-    (question (asked.Done Yes (fullScan (o + k) ws x .count)) (fullScan (o + k) ws x .marks ++ drop (o + k) m))))
+    (questionOutcome (asked.Done Yes (fullScan (o + k) ws x .count)) (fullScan (o + k) ws x .marks ++ drop (o + k) m))))
 
 -- The report's backward search in place of the kind scan: it never climbs above the kind that it starts from.
 abbrev pub neverUp : Engine
 neverUp =
     withKindScan (λ o k ws y budget m.
     call
-    (netLines (λ r. outcome (scanned.Refused r) m) o k ws
-    (line 4 (leb (o + k) y || ltb y o) (outcome (scanned.Refused BadQuestion) m)
-    ∷ line 5 (ltb (length m) (o + k)) (outcome (scanned.Refused ShortBuffer) m)
+    (netClauses (λ r. scanOutcome (scanned.Refused r) m) o k ws
+    (clause 4 (leb (o + k) y || ltb y o) (scanOutcome (scanned.Refused BadQuestion) m)
+    ∷ clause 5 (ltb (length m) (o + k)) (scanOutcome (scanned.Refused ShortBuffer) m)
     ∷ []))
     (ran (downscan (o + k) ws y budget) (drop (o + k) m)))

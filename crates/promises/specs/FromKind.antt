@@ -7,7 +7,7 @@ use lib.ListN.{length}
 use Rattle.theory.specs.Words.{Sign, tailOf}
 use Rattle.theory.specs.Nets.{Kind, Net}
 use Rattle.theory.specs.Marks.{At, markerOf, U}
-use Rattle.scan.specs.Table.{outcome}
+use Rattle.scan.specs.Table.{scanOutcome}
 use Rattle.scan.specs.declared.Scanned.the-variants as scanned
 use Rattle.promises.specs.Engines.{Engine}
 use Rattle.promises.specs.Demand3.{CompletesTo, Joined}
@@ -17,7 +17,7 @@ pub record KindMarks (e : Engine) (o k : ℕ) (ws : List ℕ) (y : ℕ) (m : Lis
   pub budget : ℕ
   pub room : List ℕ
   pub count : ℕ
-  pub done : e .kindScan o k ws y budget room ≡ outcome (scanned.Done count) m
+  pub done : e .kindScan o k ws y budget room ≡ scanOutcome (scanned.Done count) m
 
 -- From every kind the engine says the same of every node over two nets.
 abbrev pub SameFromKind : Engine → ℕ → ℕ → List ℕ → List ℕ → Type 0

@@ -1,37 +1,37 @@
 -- The paper's number of each outcome.
 use Prim.Native.Nat.{ℕ}
-use Rattle.net.specs.Table.{checkedRow}
+use Rattle.net.specs.Table.{checkedReply}
 use Rattle.net.specs.declared.Checked.{Checked}
-use Rattle.scan.specs.Table.{Outcome, scanRow}
-use Rattle.question.specs.Table.{Question, askedRow}
-use Rattle.clash.specs.Table.{Clash, clashedRow}
-use Rattle.completion.specs.Table.{Completion, completedRow}
-use Rattle.reason.specs.Table.{Reason, reasonedRow}
-use Rattle.reason_check.specs.Table.{verdictRow}
+use Rattle.scan.specs.Table.{ScanOutcome, scanReply}
+use Rattle.question.specs.Table.{QuestionOutcome, askedReply}
+use Rattle.clash.specs.Table.{ClashOutcome, clashedReply}
+use Rattle.completion.specs.Table.{CompletionOutcome, completedReply}
+use Rattle.reason.specs.Table.{ReasonOutcome, reasonedReply}
+use Rattle.reason_check.specs.Table.{verdictReply}
 use Rattle.reason_check.specs.declared.Verdict.{Verdict}
-use Rattle.netfile.specs.Contents.{contentsRow}
-use Rattle.netfile.specs.Table.{Reading}
+use Rattle.netfile.specs.Contents.{contentsReply}
+use Rattle.netfile.specs.Table.{FileOutcome}
 
 abbrev pub checkedNumber : Checked → ℕ
-checkedNumber r = checkedRow r .number
+checkedNumber r = checkedReply r .number
 
-abbrev pub scanNumber : Outcome → ℕ
-scanNumber r = scanRow (r .answer) .number
+abbrev pub scanNumber : ScanOutcome → ℕ
+scanNumber r = scanReply (r .answer) .number
 
-abbrev pub questionNumber : Question → ℕ
-questionNumber r = askedRow (r .answer) .number
+abbrev pub questionNumber : QuestionOutcome → ℕ
+questionNumber r = askedReply (r .answer) .number
 
-abbrev pub clashNumber : Clash → ℕ
-clashNumber r = clashedRow (r .answer) .number
+abbrev pub clashNumber : ClashOutcome → ℕ
+clashNumber r = clashedReply (r .answer) .number
 
-abbrev pub completionNumber : Completion → ℕ
-completionNumber r = completedRow (r .answer) .number
+abbrev pub completionNumber : CompletionOutcome → ℕ
+completionNumber r = completedReply (r .answer) .number
 
-abbrev pub reasonNumber : Reason → ℕ
-reasonNumber r = reasonedRow (r .answer) .number
+abbrev pub reasonNumber : ReasonOutcome → ℕ
+reasonNumber r = reasonedReply (r .answer) .number
 
 abbrev pub verdictNumber : Verdict → ℕ
-verdictNumber r = verdictRow r .number
+verdictNumber r = verdictReply r .number
 
-abbrev pub readingNumber : Reading → ℕ
-readingNumber r = contentsRow (r .contents) .number
+abbrev pub fileNumber : FileOutcome → ℕ
+fileNumber r = contentsReply (r .contents) .number

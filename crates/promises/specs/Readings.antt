@@ -6,43 +6,43 @@ use lib.ListN.{length, replicate}
 use Rattle.theory.specs.NetM.{M}
 use Rattle.theory.specs.Scans.{same}
 use Rattle.theory.specs.Downscan.{downscan}
-use Rattle.net.specs.Table.{Row}
-use Rattle.scan.specs.Table.{Outcome, forwardScanned, kindScanned, scanRow}
-use Rattle.question.specs.Table.{Question, questioned, askedRow}
-use Rattle.clash.specs.Table.{Clash, clashedBy, clashedRow}
-use Rattle.completion.specs.Table.{Completion, completedBy, completedRow}
-use Rattle.reason.specs.Table.{Reason, reasoned, reasonedRow}
+use Rattle.net.specs.Table.{Reply}
+use Rattle.scan.specs.Table.{ScanOutcome, forwardScanned, kindScanned, scanReply}
+use Rattle.question.specs.Table.{QuestionOutcome, questioned, askedReply}
+use Rattle.clash.specs.Table.{ClashOutcome, clashedBy, clashedReply}
+use Rattle.completion.specs.Table.{CompletionOutcome, completedBy, completedReply}
+use Rattle.reason.specs.Table.{ReasonOutcome, reasoned, reasonedReply}
 
 -- One reading.
-pub record Entry : Type 0 where
+pub record Reading : Type 0 where
   pub gives : List ℕ
   pub paper : List ℕ
 
-abbrev pub entry : List ℕ → List ℕ → Entry
-entry g p = record { gives = g; paper = p }
+abbrev pub reading : List ℕ → List ℕ → Reading
+reading g p = record { gives = g; paper = p }
 
 -- ── an outcome as numbers: number and two values, then each buffer, its length in front ──
 
-abbrev pub values : Row → List ℕ → List ℕ
+abbrev pub values : Reply → List ℕ → List ℕ
 values r rest = r .number ∷ r .first ∷ r .second ∷ rest
 
 abbrev pub buffer : List ℕ → List ℕ → List ℕ
 buffer l rest = length l ∷ (l ++ rest)
 
-abbrev pub scanned : Outcome → List ℕ
-scanned r = values (scanRow (r .answer)) (buffer (r .marks) [])
+abbrev pub scanned : ScanOutcome → List ℕ
+scanned r = values (scanReply (r .answer)) (buffer (r .marks) [])
 
-abbrev pub answered : Question → List ℕ
-answered r = values (askedRow (r .answer)) (buffer (r .marks) [])
+abbrev pub answered : QuestionOutcome → List ℕ
+answered r = values (askedReply (r .answer)) (buffer (r .marks) [])
 
-abbrev pub clashes : Clash → List ℕ
-clashes r = values (clashedRow (r .answer)) (buffer (r .marks) [])
+abbrev pub clashes : ClashOutcome → List ℕ
+clashes r = values (clashedReply (r .answer)) (buffer (r .marks) [])
 
-abbrev pub completes : Completion → List ℕ
-completes r = values (completedRow (r .answer)) (buffer (r .marks) (buffer (r .list) []))
+abbrev pub completes : CompletionOutcome → List ℕ
+completes r = values (completedReply (r .answer)) (buffer (r .marks) (buffer (r .list) []))
 
-abbrev pub reasons : Reason → List ℕ
-reasons r = values (reasonedRow (r .answer)) (buffer (r .scratch) (buffer (r .list) []))
+abbrev pub reasons : ReasonOutcome → List ℕ
+reasons r = values (reasonedReply (r .answer)) (buffer (r .scratch) (buffer (r .list) []))
 
 -- At which nodes F stands.
 abbrev pub noes : List ℕ → List ℕ
@@ -55,16 +55,16 @@ abbrev pub lent : ℕ → List ℕ
 lent n = replicate n 255
 
 -- The readings of forward scans, in the order of the paper.
-abbrev pub forwardReadings : List Entry
+abbrev pub forwardReadings : List Reading
 forwardReadings =
-    entry (scanned (forwardScanned 2 4 M 0 5 (lent 7))) (0 ∷ 5 ∷ 0 ∷ 7 ∷ 1 ∷ 2 ∷ 1 ∷ 2 ∷ 2 ∷ 2 ∷ 255 ∷ [])
-    ∷ entry (scanned (forwardScanned 2 4 M 0 4 (lent 7))) (6 ∷ 4 ∷ 0 ∷ 7 ∷ 1 ∷ 2 ∷ 1 ∷ 2 ∷ 2 ∷ 2 ∷ 255 ∷ [])
-    ∷ entry (scanned (forwardScanned 2 4 M 0 1 (lent 7))) (6 ∷ 1 ∷ 0 ∷ 7 ∷ 1 ∷ 0 ∷ 1 ∷ 2 ∷ 0 ∷ 0 ∷ 255 ∷ [])
-    ∷ entry (scanned (forwardScanned 1 2 (2 ∷ 3 ∷ []) 0 6 (lent 4))) (0 ∷ 2 ∷ 0 ∷ 4 ∷ 3 ∷ 3 ∷ 0 ∷ 255 ∷ [])
-    ∷ entry (answered (questioned 1 2 (2 ∷ 3 ∷ []) 0 2 (lent 4))) (0 ∷ 0 ∷ 2 ∷ 4 ∷ 3 ∷ 3 ∷ 0 ∷ 255 ∷ [])
-    ∷ entry (scanned (forwardScanned 0 3 (3 ∷ 2053 ∷ []) 0 6 (lent 4))) (0 ∷ 2 ∷ 0 ∷ 4 ∷ 1 ∷ 2 ∷ 0 ∷ 255 ∷ [])
-    ∷ entry (scanned (forwardScanned 0 1 (1 ∷ []) 0 2 (lent 2))) (0 ∷ 2 ∷ 0 ∷ 2 ∷ 3 ∷ 255 ∷ [])
-    ∷ entry (scanned (forwardScanned 0 1 [] 0 2 (lent 2))) (0 ∷ 1 ∷ 0 ∷ 2 ∷ 1 ∷ 255 ∷ [])
+    reading (scanned (forwardScanned 2 4 M 0 5 (lent 7))) (0 ∷ 5 ∷ 0 ∷ 7 ∷ 1 ∷ 2 ∷ 1 ∷ 2 ∷ 2 ∷ 2 ∷ 255 ∷ [])
+    ∷ reading (scanned (forwardScanned 2 4 M 0 4 (lent 7))) (6 ∷ 4 ∷ 0 ∷ 7 ∷ 1 ∷ 2 ∷ 1 ∷ 2 ∷ 2 ∷ 2 ∷ 255 ∷ [])
+    ∷ reading (scanned (forwardScanned 2 4 M 0 1 (lent 7))) (6 ∷ 1 ∷ 0 ∷ 7 ∷ 1 ∷ 0 ∷ 1 ∷ 2 ∷ 0 ∷ 0 ∷ 255 ∷ [])
+    ∷ reading (scanned (forwardScanned 1 2 (2 ∷ 3 ∷ []) 0 6 (lent 4))) (0 ∷ 2 ∷ 0 ∷ 4 ∷ 3 ∷ 3 ∷ 0 ∷ 255 ∷ [])
+    ∷ reading (answered (questioned 1 2 (2 ∷ 3 ∷ []) 0 2 (lent 4))) (0 ∷ 0 ∷ 2 ∷ 4 ∷ 3 ∷ 3 ∷ 0 ∷ 255 ∷ [])
+    ∷ reading (scanned (forwardScanned 0 3 (3 ∷ 2053 ∷ []) 0 6 (lent 4))) (0 ∷ 2 ∷ 0 ∷ 4 ∷ 1 ∷ 2 ∷ 0 ∷ 255 ∷ [])
+    ∷ reading (scanned (forwardScanned 0 1 (1 ∷ []) 0 2 (lent 2))) (0 ∷ 2 ∷ 0 ∷ 2 ∷ 3 ∷ 255 ∷ [])
+    ∷ reading (scanned (forwardScanned 0 1 [] 0 2 (lent 2))) (0 ∷ 1 ∷ 0 ∷ 2 ∷ 1 ∷ 255 ∷ [])
     ∷ []
 
 -- Net M completed.
@@ -77,23 +77,23 @@ abbrev pub scratchM : List ℕ
 scratchM = 4 ∷ 65535 ∷ 3 ∷ 65535 ∷ 65535 ∷ 65535 ∷ 65535 ∷ 65535 ∷ 65535 ∷ 2 ∷ 1 ∷ 0 ∷ []
 
 -- The other readings, in the order of the paper.
-abbrev pub otherReadings : List Entry
+abbrev pub otherReadings : List Reading
 otherReadings =
-    entry (scanned (kindScanned 2 4 M 4 17 (lent 7))) (0 ∷ 3 ∷ 0 ∷ 7 ∷ 2 ∷ 1 ∷ 2 ∷ 4 ∷ 5 ∷ 1 ∷ 255 ∷ [])
-    ∷ entry (noes (downscan 6 M 4 17 .marks)) (0 ∷ 0 ∷ 0 ∷ 0 ∷ 0 ∷ 0 ∷ [])
-    ∷ entry (reasons (reasoned 2 4 M 0 5 1 (lent 13) (lent 8))) (0 ∷ 7 ∷ 0 ∷ 13 ∷ (scratchM ++ (255 ∷ 8 ∷ 2 ∷ 3 ∷ 0 ∷ 2 ∷ 3 ∷ 4 ∷ 5 ∷ 255 ∷ [])))
-    ∷ entry (reasons (reasoned 2 4 M 0 5 1 (lent 13) (lent 6))) (8 ∷ 7 ∷ 0 ∷ 13 ∷ (scratchM ++ (255 ∷ 6 ∷ 255 ∷ 255 ∷ 255 ∷ 255 ∷ 255 ∷ 255 ∷ [])))
-    ∷ entry (completes (completedBy 2 4 M (lent 7) (lent 22))) (0 ∷ 21 ∷ 0 ∷ 7 ∷ 0 ∷ 0 ∷ 0 ∷ 0 ∷ 0 ∷ 0 ∷ 255 ∷ 22 ∷ (completedM ++ (255 ∷ [])))
-    ∷ entry (clashes (clashedBy 1 2 (2 ∷ 3 ∷ []) (lent 4))) (0 ∷ 0 ∷ 1 ∷ 4 ∷ 0 ∷ 0 ∷ 0 ∷ 255 ∷ [])
-    ∷ entry (completes (completedBy 0 1 (1 ∷ []) (lent 2) (lent 3))) (0 ∷ 2 ∷ 0 ∷ 2 ∷ 0 ∷ 255 ∷ 3 ∷ 0 ∷ 1 ∷ 255 ∷ [])
-    ∷ entry (completes (completedBy 0 1 [] (lent 2) (lent 2))) (0 ∷ 1 ∷ 0 ∷ 2 ∷ 0 ∷ 255 ∷ 2 ∷ 0 ∷ 255 ∷ [])
+    reading (scanned (kindScanned 2 4 M 4 17 (lent 7))) (0 ∷ 3 ∷ 0 ∷ 7 ∷ 2 ∷ 1 ∷ 2 ∷ 4 ∷ 5 ∷ 1 ∷ 255 ∷ [])
+    ∷ reading (noes (downscan 6 M 4 17 .marks)) (0 ∷ 0 ∷ 0 ∷ 0 ∷ 0 ∷ 0 ∷ [])
+    ∷ reading (reasons (reasoned 2 4 M 0 5 1 (lent 13) (lent 8))) (0 ∷ 7 ∷ 0 ∷ 13 ∷ (scratchM ++ (255 ∷ 8 ∷ 2 ∷ 3 ∷ 0 ∷ 2 ∷ 3 ∷ 4 ∷ 5 ∷ 255 ∷ [])))
+    ∷ reading (reasons (reasoned 2 4 M 0 5 1 (lent 13) (lent 6))) (8 ∷ 7 ∷ 0 ∷ 13 ∷ (scratchM ++ (255 ∷ 6 ∷ 255 ∷ 255 ∷ 255 ∷ 255 ∷ 255 ∷ 255 ∷ [])))
+    ∷ reading (completes (completedBy 2 4 M (lent 7) (lent 22))) (0 ∷ 21 ∷ 0 ∷ 7 ∷ 0 ∷ 0 ∷ 0 ∷ 0 ∷ 0 ∷ 0 ∷ 255 ∷ 22 ∷ (completedM ++ (255 ∷ [])))
+    ∷ reading (clashes (clashedBy 1 2 (2 ∷ 3 ∷ []) (lent 4))) (0 ∷ 0 ∷ 1 ∷ 4 ∷ 0 ∷ 0 ∷ 0 ∷ 255 ∷ [])
+    ∷ reading (completes (completedBy 0 1 (1 ∷ []) (lent 2) (lent 3))) (0 ∷ 2 ∷ 0 ∷ 2 ∷ 0 ∷ 255 ∷ 3 ∷ 0 ∷ 1 ∷ 255 ∷ [])
+    ∷ reading (completes (completedBy 0 1 [] (lent 2) (lent 2))) (0 ∷ 1 ∷ 0 ∷ 2 ∷ 0 ∷ 255 ∷ 2 ∷ 0 ∷ 255 ∷ [])
     ∷ []
 
 -- All of them.
-abbrev pub readings : List Entry
+abbrev pub readings : List Reading
 readings = otherReadings ++ forwardReadings
 
 -- Every entry agrees with the paper.
-unfoldable pub allAgree : List Entry → Bool
+unfoldable pub allAgree : List Reading → Bool
 allAgree [] = true
 allAgree (e ∷ es) = same (e .gives) (e .paper) && allAgree es

@@ -24,10 +24,10 @@ pub record Reasoning (e : Engine) : Type 0 where
   -- A reason that is done stands in front of the list; its number of places is given.
   pub done : (o k : ℕ) (ws : List ℕ) (x y sign : ℕ) (d l : List ℕ) (size : ℕ) → e .reason o k ws x y sign d l .answer ≡ reasoned.Done size
       → (r : ReasonOf o k ws x y sign size) × (e .reason o k ws x y sign d l .list ≡ written x (r .xs) (r .ys) ++ drop size l) × (size ≤ length l)
-  -- Row 7: the statement is not supported.
+  -- Number 7: the statement is not supported.
   pub unsupported : (o k : ℕ) (ws : List ℕ) (x y sign : ℕ) (d l : List ℕ) → e .reason o k ws x y sign d l .answer ≡ reasoned.Unsupported
       → Supported o k (Links ws) x y (signAt sign) → ⊥
-  -- Row 8: the reason has more places than the list.
+  -- Number 8: the reason has more places than the list.
   pub short : (o k : ℕ) (ws : List ℕ) (x y sign : ℕ) (d l : List ℕ) (size : ℕ) → e .reason o k ws x y sign d l .answer ≡ reasoned.Short size
       → ReasonOf o k ws x y sign size × (length l < size)
   -- The scratch of a reason that was not refused: each of its 2N places is the fewest links from there to the end, or says that there is no way.

@@ -9,36 +9,36 @@ use Rattle.theory.specs.Scans.{same, Scan}
 use Rattle.theory.specs.declared.Command.{Command}
 use Rattle.net.specs.declared.Refusal.{Refusal}
 use Rattle.net.specs.declared.Checked.the-variants as checked
-use Rattle.scan.specs.Table.{Outcome, outcome, badStart, scanTable}
+use Rattle.scan.specs.Table.{ScanOutcome, scanOutcome, badStart, scanTable}
 use Rattle.scan_start.specs.Starts.{cleared, start}
 use Rattle.scan_round.specs.Turns.{commands}
 use Rattle.scan.specs.declared.Scanned.the-variants as scanned
-use Rattle.question.specs.Table.{question, questionTable, questioned, readAt}
-use Rattle.clash.specs.Table.{clash}
+use Rattle.question.specs.Table.{questionOutcome, questionTable, questioned, readAt}
+use Rattle.clash.specs.Table.{clashOutcome}
 use Rattle.question.specs.declared.Answer.the-variants.{None}
 use Rattle.question.specs.declared.Asked.{Asked}
 use Rattle.question.specs.declared.Asked.the-variants as asked
 use Rattle.clash.specs.declared.Clashed.the-variants as clashed
-use Rattle.completion.specs.Table.{Completion, completion, completionLines, completionDone}
+use Rattle.completion.specs.Table.{CompletionOutcome, completionOutcome, completionClauses, completionDone}
 use Rattle.completion.specs.declared.Completed.the-variants as completed
 use Rattle.net.specs.declared.Refusal.the-variants.{BadQuestion, ShortBuffer}
-use Rattle.reason.specs.Table.{reason}
+use Rattle.reason.specs.Table.{reasonOutcome}
 use Rattle.reason.specs.declared.Reasoned.the-variants as reasonedAs
 use Rattle.reason_check.specs.declared.Verdict.the-variants as verdictAs
-use Rattle.net.specs.Lines.{line, call}
-use Rattle.net.specs.Table.{netLines}
+use Rattle.net.specs.Clauses.{clause, call}
+use Rattle.net.specs.Table.{netClauses}
 use Rattle.promises.specs.Engines.{Engine, ours, ran, withForwardScan, withQuestion, withCompletion}
 
 -- One that refuses all calls, with the refusal r.
 abbrev pub refuser : Refusal → Engine
 refuser r = record {
   netCheck = λ o k ws. checked.Refused r;
-  forwardScan = λ o k ws x budget m. outcome (scanned.Refused r) m;
-  kindScan = λ o k ws y budget m. outcome (scanned.Refused r) m;
-  question = λ o k ws x y m. question (asked.Refused r) m;
-  clashTest = λ o k ws m. clash (clashed.Refused r) m;
-  completion = λ o k ws m l. completion (completed.Refused r) m l;
-  reason = λ o k ws x y sign d l. reason (reasonedAs.Refused r) d l;
+  forwardScan = λ o k ws x budget m. scanOutcome (scanned.Refused r) m;
+  kindScan = λ o k ws y budget m. scanOutcome (scanned.Refused r) m;
+  question = λ o k ws x y m. questionOutcome (asked.Refused r) m;
+  clashTest = λ o k ws m. clashOutcome (clashed.Refused r) m;
+  completion = λ o k ws m l. completionOutcome (completed.Refused r) m l;
+  reason = λ o k ws x y sign d l. reasonOutcome (reasonedAs.Refused r) d l;
   reasonCheck = λ o k ws x y sign l. verdictAs.Refused r;
 }
 
@@ -49,21 +49,21 @@ silenced (asked.Refused r) = asked.Refused r
 
 -- One that answers none to every question, with the right rounds, marks and refusals.
 abbrev pub denier : Engine
-denier = withQuestion (λ o k ws x y m. question (silenced (questioned o k ws x y m .answer)) (questioned o k ws x y m .marks))
+denier = withQuestion (λ o k ws x y m. questionOutcome (silenced (questioned o k ws x y m .answer)) (questioned o k ws x y m .marks))
 
 -- The net as its own completion, with the right refusals.
-abbrev pub ownCompletion : ℕ → ℕ → List ℕ → List ℕ → List ℕ → Completion
+abbrev pub ownCompletion : ℕ → ℕ → List ℕ → List ℕ → List ℕ → CompletionOutcome
 ownCompletion o k ws m l =
-    call (netLines (λ r. completion (completed.Refused r) m l) o k ws (completionLines ws m l (o + k))) (completionDone ws m l (o + k))
+    call (netClauses (λ r. completionOutcome (completed.Refused r) m l) o k ws (completionClauses ws m l (o + k))) (completionDone ws m l (o + k))
 
 -- One that returns it.
 abbrev pub copier : Engine
 copier = withCompletion ownCompletion
 
 -- A forward scan that runs the first round and reports an invented count, with the right refusals, and the right outcome of a budget that is spent.
-abbrev pub oneRound : (ℕ → ℕ → List ℕ → ℕ → ℕ → List ℕ → ℕ) → ℕ → ℕ → List ℕ → ℕ → ℕ → List ℕ → Outcome
+abbrev pub oneRound : (ℕ → ℕ → List ℕ → ℕ → ℕ → List ℕ → ℕ) → ℕ → ℕ → List ℕ → ℕ → ℕ → List ℕ → ScanOutcome
 oneRound invented o k ws x budget m =
-    call (scanTable false o k ws x budget m) (outcome (scanned.Done (invented o k ws x budget m)) (round forward ws (forwardStart (o + k) x) ++ drop (o + k) m))
+    call (scanTable false o k ws x budget m) (scanOutcome (scanned.Done (invented o k ws x budget m)) (round forward ws (forwardStart (o + k) x) ++ drop (o + k) m))
 
 -- One that does so.
 abbrev pub inventor : (ℕ → ℕ → List ℕ → ℕ → ℕ → List ℕ → ℕ) → Engine
@@ -88,12 +88,12 @@ hastyRounds cs ws count (suc budget) m =
     ]
 
 -- The two scans by such rounds, with the right refusals.
-abbrev pub hastyScan : Bool → ℕ → ℕ → List ℕ → ℕ → ℕ → List ℕ → Outcome
+abbrev pub hastyScan : Bool → ℕ → ℕ → List ℕ → ℕ → ℕ → List ℕ → ScanOutcome
 hastyScan kind o k ws x budget m =
     call
-    (netLines (λ r. outcome (scanned.Refused r) m) o k ws
-    (line 4 (badStart kind o (o + k) x) (outcome (scanned.Refused BadQuestion) m)
-    ∷ line 5 (ltb (length m) (o + k)) (outcome (scanned.Refused ShortBuffer) m)
+    (netClauses (λ r. scanOutcome (scanned.Refused r) m) o k ws
+    (clause 4 (badStart kind o (o + k) x) (scanOutcome (scanned.Refused BadQuestion) m)
+    ∷ clause 5 (ltb (length m) (o + k)) (scanOutcome (scanned.Refused ShortBuffer) m)
     ∷ []))
     (ran (hastyRounds (commands kind) ws 0 budget (start kind (o + k) x)) (drop (o + k) m))
 

@@ -1,7 +1,7 @@
 -- What a byte answers, as the code reads it.
 use Prim.Native.Nat.{ℕ, _/_, _%_}
 use mathlib.Core.Path.{_≡_}
-use Rattle.theory.proofs.Bytes.{has-T, no-T, has-F, no-F}
+use Rattle.theory.proofs.machine.Bytes.{has-T, no-T, has-F, no-F}
 use Rattle.question.specs.Table.{answerAt}
 use Rattle.question.specs.declared.Answer.the-variants.{None, Yes, No, Both}
 

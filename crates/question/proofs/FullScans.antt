@@ -11,10 +11,10 @@ use Rattle.theory.specs.Nets.{Net}
 use Rattle.theory.specs.Marks.{forward, forwardStart}
 use Rattle.theory.specs.Scans.{fullScan}
 use Rattle.theory.proofs.Inside.{Inside, legal-inside}
-use Rattle.theory.proofs.Bounds.{forward-scan-long}
-use Rattle.net.specs.Lines.{call}
-use Rattle.scan.proofs.Outcomes.{over, scan-over}
-use Rattle.scan.specs.Table.{Outcome, outcome, scanLines, scanDone}
+use Rattle.theory.proofs.machine.Bounds.{forward-scan-long}
+use Rattle.net.specs.Clauses.{call}
+use Rattle.scan.proofs.Outcomes.{scanEnd, scan-end}
+use Rattle.scan.specs.Table.{ScanOutcome, scanOutcome, scanClauses, scanDone}
 use Rattle.scan.specs.declared.Scanned.{Scanned}
 use Rattle.scan.specs.declared.Scanned.the-variants.{Done, Spent, Refused}
 
@@ -34,15 +34,15 @@ count-ran false c = refl
 
 -- What the code is left with where it scanned with the full budget: the answer r and the marks m′.
 module _ (o k n : ℕ) (ws : List ℕ) (net : Net o k ws) (e : n ≡ o + k) (x : ℕ) (h : x < n) (m : List ℕ) (l : n ≤ length m) {r : Scanned} {m′ : List ℕ}
-    (ran : outcome r m′ ≡ call (scanLines false o ws x (2 * n) m n) (scanDone false ws x (2 * n) m n)) where
-  full-ran : outcome r m′ ≡ over (record { done = fullScan n ws x .done; count = fullScan n ws x .count; marks = fullScan n ws x .marks ++ drop n m })
-  full-ran = ran ∙ rw (lt-leb n x h, le-ltb (length m) n l) (sym (scan-over forward ws (forwardStart n x) (2 * n) (drop n m)))
+    (ran : scanOutcome r m′ ≡ call (scanClauses false o ws x (2 * n) m n) (scanDone false ws x (2 * n) m n)) where
+  full-ran : scanOutcome r m′ ≡ scanEnd (record { done = fullScan n ws x .done; count = fullScan n ws x .count; marks = fullScan n ws x .marks ++ drop n m })
+  full-ran = ran ∙ rw (lt-leb n x h, le-ltb (length m) n l) (sym (scan-end forward ws (forwardStart n x) (2 * n) (drop n m)))
 
   full-count : countOf r ≡ fullScan n ws x .count
-  full-count = ap (λ (q : Outcome). countOf (q .answer)) full-ran ∙ count-ran (fullScan n ws x .done) (fullScan n ws x .count)
+  full-count = ap (λ (q : ScanOutcome). countOf (q .answer)) full-ran ∙ count-ran (fullScan n ws x .done) (fullScan n ws x .count)
 
   full-marks : m′ ≡ fullScan n ws x .marks ++ drop n m
-  full-marks = ap (λ (q : Outcome). q .marks) full-ran
+  full-marks = ap (λ (q : ScanOutcome). q .marks) full-ran
 
   full-long : length (fullScan n ws x .marks) ≡ n
   full-long = subst (λ (i : ℕ). length (fullScan i ws x .marks) ≡ i) (sym e) (forward-scan-long o k ws (net .legal) x (omega arith) (2 * (o + k)))

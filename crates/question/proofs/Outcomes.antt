@@ -8,13 +8,13 @@ use lib.ListN.{length, getD, take, drop, take-append-drop}
 use lib.Seq.{getD-take}
 use Rattle.theory.specs.Nets.{Net}
 use Rattle.theory.specs.Scans.{fullScan}
-use Rattle.net.specs.Lines.{call}
+use Rattle.net.specs.Clauses.{call}
 use Rattle.net.specs.Table.{checkNet, badPair}
 use Rattle.net.specs.declared.Refusal.the-variants.{BadQuestion, ShortBuffer}
 use Rattle.net.specs.declared.Checked.the-variants as checked
 use Rattle.net.proofs.NetCheck.{check-is-net}
 use Rattle.net.proofs.Good.{good-pair}
-use Rattle.question.specs.Table.{answerAt, question, questionLines, questionDone}
+use Rattle.question.specs.Table.{answerAt, questionOutcome, questionClauses, questionDone}
 use Rattle.question.specs.declared.Answer.{Answer}
 use Rattle.question.specs.declared.Asked.the-variants as asked
 
@@ -23,22 +23,22 @@ pub checked-net : (o k : ℕ) (ws : List ℕ) (n : ℕ) → checkNet o k ws ≡ 
 checked-net o k ws n e = let t = check-is-net o k ws n e in (t .1, t .0)
 
 module _ (o n : ℕ) (ws : List ℕ) (x y : ℕ) (m : List ℕ) where
-  -- Row 4.
-  pub ask-bad : badPair o n x y ≡ true → question (asked.Refused BadQuestion) m ≡ call (questionLines o x y m n) (questionDone ws x y m n)
+  -- Number 4.
+  pub ask-bad : badPair o n x y ≡ true → questionOutcome (asked.Refused BadQuestion) m ≡ call (questionClauses o x y m n) (questionDone ws x y m n)
   ask-bad h = rw h
 
-  -- Row 5.
-  pub ask-short : badPair o n x y ≡ false → length m < n → question (asked.Refused ShortBuffer) m ≡ call (questionLines o x y m n) (questionDone ws x y m n)
+  -- Number 5.
+  pub ask-short : badPair o n x y ≡ false → length m < n → questionOutcome (asked.Refused ShortBuffer) m ≡ call (questionClauses o x y m n) (questionDone ws x y m n)
   ask-short g h = rw (g, lt-ltb (length m) n h)
 
-  -- Row 0: the code scanned, was left with the marks m′, and read y's byte there.
+  -- Number 0: the code scanned, was left with the marks m′, and read y's byte there.
   pub ask-done : badPair o n x y ≡ false → n ≤ length m → (m′ : List ℕ) (count : ℕ) (a : Answer) → count ≡ fullScan n ws x .count
       → take n m′ ≡ fullScan n ws x .marks → drop n m′ ≡ drop n m → a ≡ answerAt (getD m′ y 0)
-      → question (asked.Done a count) m′ ≡ call (questionLines o x y m n) (questionDone ws x y m n)
+      → questionOutcome (asked.Done a count) m′ ≡ call (questionClauses o x y m n) (questionDone ws x y m n)
   ask-done g h m′ count a c l p r =
       let same : getD m′ y 0 ≡ getD (fullScan n ws x .marks) y 0 = sym (getD-take n m′ y 0 (good-pair o n x y .0 g .high)) ∙ ap (λ (q : List ℕ). getD q y 0) l in
       let left : m′ ≡ fullScan n ws x .marks ++ drop n m = sym (take-append-drop n m′) ∙ rw (l, p) in
       rw (g, le-ltb (length m) n h) (done (r ∙ ap answerAt same) c left)
     where
-      done : {a b : Answer} {c d : ℕ} {p q : List ℕ} → a ≡ b → c ≡ d → p ≡ q → question (asked.Done a c) p ≡ question (asked.Done b d) q
+      done : {a b : Answer} {c d : ℕ} {p q : List ℕ} → a ≡ b → c ≡ d → p ≡ q → questionOutcome (asked.Done a c) p ≡ questionOutcome (asked.Done b d) q
       done e f g = λ i. record { answer = asked.Done (e i) (f i); marks = g i }

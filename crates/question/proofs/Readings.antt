@@ -7,7 +7,7 @@ use Rattle.theory.specs.Scans.{same, rounds}
 use Rattle.theory.specs.NetM.{M}
 use Rattle.net.specs.Legal.{legalPrefix}
 use Rattle.net.specs.declared.Refusal.the-variants.{IllegalWord, BadQuestion, ShortBuffer}
-use Rattle.question.specs.Table.{question, questioned}
+use Rattle.question.specs.Table.{questionOutcome, questioned}
 use Rattle.question.specs.declared.Answer.the-variants.{None, Yes, No, Both}
 use Rattle.question.specs.declared.Asked.the-variants as asked
 
@@ -16,44 +16,44 @@ abbrev left : List ℕ
 left = 255 ∷ 7 ∷ 9 ∷ 3 ∷ 1 ∷ 128 ∷ 200 ∷ 201 ∷ []
 
 -- The five questions about net M.
-pub ask-0-4 : questioned 2 4 M 0 4 left ≡ question (asked.Done No 5) (1 ∷ 2 ∷ 1 ∷ 2 ∷ 2 ∷ 2 ∷ 200 ∷ 201 ∷ [])
+pub ask-0-4 : questioned 2 4 M 0 4 left ≡ questionOutcome (asked.Done No 5) (1 ∷ 2 ∷ 1 ∷ 2 ∷ 2 ∷ 2 ∷ 200 ∷ 201 ∷ [])
 unfolding legalPrefix rounds same round command links link mark
 ask-0-4 = refl
 
-pub ask-1-4 : questioned 2 4 M 1 4 left ≡ question (asked.Done Yes 5) (2 ∷ 1 ∷ 2 ∷ 1 ∷ 1 ∷ 1 ∷ 200 ∷ 201 ∷ [])
+pub ask-1-4 : questioned 2 4 M 1 4 left ≡ questionOutcome (asked.Done Yes 5) (2 ∷ 1 ∷ 2 ∷ 1 ∷ 1 ∷ 1 ∷ 200 ∷ 201 ∷ [])
 unfolding legalPrefix rounds same round command links link mark
 ask-1-4 = refl
 
-pub ask-2-5 : questioned 2 4 M 2 5 left ≡ question (asked.Done No 5) (0 ∷ 2 ∷ 1 ∷ 2 ∷ 2 ∷ 2 ∷ 200 ∷ 201 ∷ [])
+pub ask-2-5 : questioned 2 4 M 2 5 left ≡ questionOutcome (asked.Done No 5) (0 ∷ 2 ∷ 1 ∷ 2 ∷ 2 ∷ 2 ∷ 200 ∷ 201 ∷ [])
 unfolding legalPrefix rounds same round command links link mark
 ask-2-5 = refl
 
-pub ask-3-4 : questioned 2 4 M 3 4 left ≡ question (asked.Done None 3) (2 ∷ 0 ∷ 2 ∷ 1 ∷ 0 ∷ 0 ∷ 200 ∷ 201 ∷ [])
+pub ask-3-4 : questioned 2 4 M 3 4 left ≡ questionOutcome (asked.Done None 3) (2 ∷ 0 ∷ 2 ∷ 1 ∷ 0 ∷ 0 ∷ 200 ∷ 201 ∷ [])
 unfolding legalPrefix rounds same round command links link mark
 ask-3-4 = refl
 
-pub ask-3-0 : questioned 2 4 M 3 0 left ≡ question (asked.Refused BadQuestion) left
+pub ask-3-0 : questioned 2 4 M 3 0 left ≡ questionOutcome (asked.Refused BadQuestion) left
 unfolding legalPrefix rounds same round command links link mark
 ask-3-0 = refl
 
--- Row 3 comes before row 4, row 4 before row 5, and row 5 is given for a byte too few.
-pub ask-illegal : questioned 1 1 (2 ∷ 0 ∷ []) 5 5 [] ≡ question (asked.Refused (IllegalWord 1)) []
+-- Number 3 comes before number 4, number 4 before number 5, and number 5 is given for a byte too few.
+pub ask-illegal : questioned 1 1 (2 ∷ 0 ∷ []) 5 5 [] ≡ questionOutcome (asked.Refused (IllegalWord 1)) []
 unfolding legalPrefix rounds same round command links link mark
 ask-illegal = refl
 
-pub ask-bad-first : questioned 2 4 M 6 4 [] ≡ question (asked.Refused BadQuestion) []
+pub ask-bad-first : questioned 2 4 M 6 4 [] ≡ questionOutcome (asked.Refused BadQuestion) []
 unfolding legalPrefix rounds same round command links link mark
 ask-bad-first = refl
 
-pub ask-short : questioned 2 4 M 0 4 (255 ∷ 7 ∷ 9 ∷ 3 ∷ 1 ∷ []) ≡ question (asked.Refused ShortBuffer) (255 ∷ 7 ∷ 9 ∷ 3 ∷ 1 ∷ [])
+pub ask-short : questioned 2 4 M 0 4 (255 ∷ 7 ∷ 9 ∷ 3 ∷ 1 ∷ []) ≡ questionOutcome (asked.Refused ShortBuffer) (255 ∷ 7 ∷ 9 ∷ 3 ∷ 1 ∷ [])
 unfolding legalPrefix rounds same round command links link mark
 ask-short = refl
 
 -- An object that is and is not a kind: both there, and about the other kind nothing is said.
-pub ask-0-1 : questioned 1 2 (2 ∷ 3 ∷ []) 0 1 (0 ∷ 0 ∷ 0 ∷ []) ≡ question (asked.Done Both 2) (3 ∷ 3 ∷ 0 ∷ [])
+pub ask-0-1 : questioned 1 2 (2 ∷ 3 ∷ []) 0 1 (0 ∷ 0 ∷ 0 ∷ []) ≡ questionOutcome (asked.Done Both 2) (3 ∷ 3 ∷ 0 ∷ [])
 unfolding legalPrefix rounds same round command links link mark
 ask-0-1 = refl
 
-pub ask-0-2 : questioned 1 2 (2 ∷ 3 ∷ []) 0 2 (0 ∷ 0 ∷ 0 ∷ []) ≡ question (asked.Done None 2) (3 ∷ 3 ∷ 0 ∷ [])
+pub ask-0-2 : questioned 1 2 (2 ∷ 3 ∷ []) 0 2 (0 ∷ 0 ∷ 0 ∷ []) ≡ questionOutcome (asked.Done None 2) (3 ∷ 3 ∷ 0 ∷ [])
 unfolding legalPrefix rounds same round command links link mark
 ask-0-2 = refl

@@ -6,8 +6,8 @@ use lib.Dec.{ltb}
 use lib.ListN.{length, getD, drop}
 use Rattle.theory.specs.Marks.{saysYes, saysNo}
 use Rattle.theory.specs.Scans.{Scan, fullScan}
-use Rattle.net.specs.Lines.{Line, line, call}
-use Rattle.net.specs.Table.{netLines, badPair, Row, row, refusalRow}
+use Rattle.net.specs.Clauses.{Clause, clause, call}
+use Rattle.net.specs.Table.{netClauses, badPair, Reply, reply, refusalReply}
 use Rattle.net.specs.declared.Refusal.the-variants.{BadQuestion, ShortBuffer}
 use Rattle.question.specs.declared.Answer.{Answer}
 use Rattle.question.specs.declared.Answer.the-variants.{None, Yes, No, Both}
@@ -18,31 +18,31 @@ use Rattle.question.specs.declared.Asked.the-variants as asked
 abbrev pub answerAt : ℕ → Answer
 answerAt b = cond (saysYes b) (cond (saysNo b) Both Yes) (cond (saysNo b) No None)
 
--- What a question leaves: its answer and the marks.
-pub record Question : Type 0 where
+-- The outcome of a question: its answer and the marks.
+pub record QuestionOutcome : Type 0 where
   pub answer : Asked
   pub marks : List ℕ
 
-abbrev pub question : Asked → List ℕ → Question
-question r m = record { answer = r; marks = m }
+abbrev pub questionOutcome : Asked → List ℕ → QuestionOutcome
+questionOutcome r m = record { answer = r; marks = m }
 
--- Lines 4 and 5 on n nodes.
-abbrev pub questionLines : ℕ → ℕ → ℕ → List ℕ → ℕ → List (Line Question)
-questionLines o x y m n =
-    line 4 (badPair o n x y) (question (asked.Refused BadQuestion) m) ∷ line 5 (ltb (length m) n) (question (asked.Refused ShortBuffer) m) ∷ []
+-- Clauses 4 and 5 on n nodes.
+abbrev pub questionClauses : ℕ → ℕ → ℕ → List ℕ → ℕ → List (Clause QuestionOutcome)
+questionClauses o x y m n =
+    clause 4 (badPair o n x y) (questionOutcome (asked.Refused BadQuestion) m) ∷ clause 5 (ltb (length m) n) (questionOutcome (asked.Refused ShortBuffer) m) ∷ []
 
--- Line 0: the byte at y, the count, and the marks of the nodes; past them the bytes as they were.
-abbrev pub readAt : ℕ → Scan → List ℕ → Question
-readAt y s past = question (asked.Done (answerAt (getD (s .marks) y 0)) (s .count)) (s .marks ++ past)
+-- Number 0: the byte at y, the count, and the marks of the nodes; past them the bytes as they were.
+abbrev pub readAt : ℕ → Scan → List ℕ → QuestionOutcome
+readAt y s past = questionOutcome (asked.Done (answerAt (getD (s .marks) y 0)) (s .count)) (s .marks ++ past)
 
-abbrev pub questionDone : List ℕ → ℕ → ℕ → List ℕ → ℕ → Question
+abbrev pub questionDone : List ℕ → ℕ → ℕ → List ℕ → ℕ → QuestionOutcome
 questionDone ws x y m n = readAt y (fullScan n ws x) (drop n m)
 
-abbrev pub questionTable : ℕ → ℕ → List ℕ → ℕ → ℕ → List ℕ → List (Line Question)
-questionTable o k ws x y m = netLines (λ r. question (asked.Refused r) m) o k ws (questionLines o x y m (o + k))
+abbrev pub questionTable : ℕ → ℕ → List ℕ → ℕ → ℕ → List ℕ → List (Clause QuestionOutcome)
+questionTable o k ws x y m = netClauses (λ r. questionOutcome (asked.Refused r) m) o k ws (questionClauses o x y m (o + k))
 
 -- The question whether x is y.
-abbrev pub questioned : ℕ → ℕ → List ℕ → ℕ → ℕ → List ℕ → Question
+abbrev pub questioned : ℕ → ℕ → List ℕ → ℕ → ℕ → List ℕ → QuestionOutcome
 questioned o k ws x y m = call (questionTable o k ws x y m) (questionDone ws x y m (o + k))
 
 -- The paper's number and values for each answer.
@@ -52,6 +52,6 @@ answerNumber Yes = 1
 answerNumber No = 2
 answerNumber Both = 3
 
-abbrev pub askedRow : Asked → Row
-askedRow (asked.Done a count) = row 0 (answerNumber a) count
-askedRow (asked.Refused r) = refusalRow r
+abbrev pub askedReply : Asked → Reply
+askedReply (asked.Done a count) = reply 0 (answerNumber a) count
+askedReply (asked.Refused r) = refusalReply r

@@ -4,8 +4,8 @@ ghost use Prim.Native.Nat.{_+_, _<_, _≤_};
 ghost use lib.ListN.{length, take, drop};
 ghost use Rattle.theory.specs.Nets.{Net};
 ghost use Rattle.theory.specs.Scans.{fullScan};
-ghost use Rattle.question.specs.Table.{answerAt, question, questionLines, questionDone, questionTable};
-ghost use Rattle.net.specs.Lines.{call};
+ghost use Rattle.question.specs.Table.{answerAt, questionOutcome, questionClauses, questionDone, questionTable};
+ghost use Rattle.net.specs.Clauses.{call};
 use net::Checked;
 use net::Refusal;
 use net::check_net;
@@ -65,7 +65,7 @@ fn answer_at(byte: u8) -> Answer
 
 // The question whether `x` is `y`.
 pub fn ask_question(o: u32, k: u32, words: &[u32], x: u32, y: u32, marks: &mut [u8]) -> Asked
-    ensures { λ r. ⌜ question r (now (marks .exit)) ≡ call (questionTable o k (now (words .entry)) x y (now (marks .entry))) (questionDone (now (words .entry)) x y (now (marks .entry)) (o + k)) ⌝ }
+    ensures { λ r. ⌜ questionOutcome r (now (marks .exit)) ≡ call (questionTable o k (now (words .entry)) x y (now (marks .entry))) (questionDone (now (words .entry)) x y (now (marks .entry)) (o + k)) ⌝ }
 {
     let net = check_net(o, k, words);
     match net {
@@ -74,11 +74,11 @@ pub fn ask_question(o: u32, k: u32, words: &[u32], x: u32, y: u32, marks: &mut [
     }
 }
 
-// Rows 4, 5 and 0, on a net that was checked.
+// Numbers 4, 5 and 0, on a net that was checked.
 fn ask_net(o: u32, k: u32, n: usize, words: &[u32], x: u32, y: u32, marks: &mut [u8]) -> Asked
     requires net { ⌜ Net o k (now words) ⌝ }
     requires size { ⌜ n ≡ o + k ⌝ }
-    ensures { λ r. ⌜ question r (now (marks .exit)) ≡ call (questionLines o x y (now (marks .entry)) n) (questionDone (now (words .entry)) x y (now (marks .entry)) n) ⌝ }
+    ensures { λ r. ⌜ questionOutcome r (now (marks .exit)) ≡ call (questionClauses o x y (now (marks .entry)) n) (questionDone (now (words .entry)) x y (now (marks .entry)) n) ⌝ }
 {
     if is_bad_pair(o, n, x, y) {
         return Asked::Refused(Refusal::BadQuestion);

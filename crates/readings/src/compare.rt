@@ -26,13 +26,13 @@ use readings_cases::tally::Tally;
 use readings_cases::tally::counted;
 use readings_cases::tally::with_fault;
 use readings_cases::tally::with_line;
-use second::Outcome;
+use second::Reply;
 
-// Prints an outcome: its number and both values.
-fn show_outcome(outcome: Outcome) {
-    show_field(outcome.number);
-    show_field(outcome.first);
-    show_field(outcome.second);
+// Prints a reply: its number and both values.
+fn show_reply(reply: Reply) {
+    show_field(reply.number);
+    show_field(reply.first);
+    show_field(reply.second);
 }
 
 // Runs a case on an engine and prints what it answers.
@@ -42,9 +42,9 @@ fn answer(
     case: Case,
     store: &[u32],
     buffers: &mut [u32],
-) -> Outcome {
+) -> Reply {
     load(operation, case, store, buffers);
-    let outcome = run(
+    let reply = run(
         engine,
         operation,
         numbers_of(store),
@@ -53,17 +53,17 @@ fn answer(
         case.second,
         buffers,
     );
-    show_outcome(outcome);
+    show_reply(reply);
     show_buffers(operation, case, buffers);
-    outcome
+    reply
 }
 
-// Whether two outcomes are the same.
-fn same_outcome(a: Outcome, b: Outcome) -> bool {
+// Whether two replies are the same.
+fn same_reply(a: Reply, b: Reply) -> bool {
     a.number == b.number && a.first == b.first && a.second == b.second
 }
 
-// Runs a case on both engines; whether they agree in the outcome and in every place of the buffers.
+// Runs a case on both engines; whether they agree in the reply and in every place of the buffers.
 fn run_both(operation: Operation, case: Case, store: &[u32]) -> bool {
     let mut ours = [0u32; 294913];
     let mut theirs = [0u32; 294913];
@@ -71,7 +71,7 @@ fn run_both(operation: Operation, case: Case, store: &[u32]) -> bool {
     let proved = answer(Engine::Proved, operation, case, store, &mut ours);
     show(b"second");
     let second = answer(Engine::Second, operation, case, store, &mut theirs);
-    same_outcome(proved, second) && same_numbers(&ours, &theirs)
+    same_reply(proved, second) && same_numbers(&ours, &theirs)
 }
 
 // Runs the case whose name stands between two places of the line.

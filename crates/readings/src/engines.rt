@@ -17,7 +17,7 @@ use readings_cases::places::numbers_from;
 use readings_cases::widths::from_bytes;
 use readings_cases::widths::to_bytes;
 use readings_cases::widths::to_halves;
-use second::Outcome;
+use second::Reply;
 
 // Which of the two engines.
 pub enum Engine {
@@ -33,7 +33,7 @@ fn least(a: usize, b: usize) -> usize
 }
 
 // The check of a net.
-fn on_words(engine: Engine, n: Numbers, words: &[u32]) -> Outcome {
+fn on_words(engine: Engine, n: Numbers, words: &[u32]) -> Reply {
     match engine {
         Engine::Proved => proved::on_words(n, words),
         Engine::Second => other::on_words(n, words),
@@ -48,7 +48,7 @@ fn on_marks(
     words: &[u32],
     size: usize,
     marks: &mut [u8],
-) -> Outcome {
+) -> Reply {
     let end = least(size, marks.len());
     match engine {
         Engine::Proved => proved::on_marks(operation, n, words, &mut marks[..end]),
@@ -64,12 +64,12 @@ fn with_marks(
     words: &[u32],
     size: usize,
     buffers: &mut [u32],
-) -> Outcome {
+) -> Reply {
     let mut marks = [0u8; 2048];
     to_bytes(numbers_from(buffers, 0, size), &mut marks);
-    let outcome = on_marks(engine, operation, n, words, size, &mut marks);
+    let reply = on_marks(engine, operation, n, words, size, &mut marks);
     from_bytes(bytes_between(&marks, 0, size), buffers, 0);
-    outcome
+    reply
 }
 
 // The completion, with the first places of marks and list.
@@ -81,7 +81,7 @@ fn on_list(
     second: usize,
     marks: &mut [u8],
     list: &mut [u32],
-) -> Outcome {
+) -> Reply {
     let a = least(first, marks.len());
     let b = least(second, list.len());
     match engine {
@@ -98,13 +98,13 @@ fn with_list(
     first: usize,
     second: usize,
     buffers: &mut [u32],
-) -> Outcome {
+) -> Reply {
     let mut marks = [0u8; 2048];
     let mut list = [0u32; 16384];
     lend_list(first, second, buffers, &mut marks, &mut list);
-    let outcome = on_list(engine, n, words, first, second, &mut marks, &mut list);
+    let reply = on_list(engine, n, words, first, second, &mut marks, &mut list);
     take_list(first, second, &marks, &list, buffers);
-    outcome
+    reply
 }
 
 // The reason, with the first places of scratch and list.
@@ -116,7 +116,7 @@ fn on_scratch(
     second: usize,
     scratch: &mut [u16],
     list: &mut [u16],
-) -> Outcome {
+) -> Reply {
     let a = least(first, scratch.len());
     let b = least(second, list.len());
     match engine {
@@ -133,17 +133,17 @@ fn with_scratch(
     first: usize,
     second: usize,
     buffers: &mut [u32],
-) -> Outcome {
+) -> Reply {
     let mut scratch = [0u16; 4096];
     let mut list = [0u16; 4096];
     lend_scratch(first, second, buffers, &mut scratch, &mut list);
-    let outcome = on_scratch(engine, n, words, first, second, &mut scratch, &mut list);
+    let reply = on_scratch(engine, n, words, first, second, &mut scratch, &mut list);
     take_scratch(first, second, &scratch, &list, buffers);
-    outcome
+    reply
 }
 
 // The check of a reason.
-fn on_reason(engine: Engine, n: Numbers, words: &[u32], list: &[u16]) -> Outcome {
+fn on_reason(engine: Engine, n: Numbers, words: &[u32], list: &[u16]) -> Reply {
     match engine {
         Engine::Proved => proved::on_reason(n, words, list),
         Engine::Second => other::on_reason(n, words, list),
@@ -151,14 +151,14 @@ fn on_reason(engine: Engine, n: Numbers, words: &[u32], list: &[u16]) -> Outcome
 }
 
 // The same, with the reason as the second buffer.
-fn with_reason(engine: Engine, n: Numbers, words: &[u32], size: usize, buffers: &[u32]) -> Outcome {
+fn with_reason(engine: Engine, n: Numbers, words: &[u32], size: usize, buffers: &[u32]) -> Reply {
     let mut list = [0u16; 4096];
     to_halves(numbers_from(buffers, SECOND_BUFFER, size), &mut list);
     on_reason(engine, n, words, halves_before(&list, size))
 }
 
 // The contents of a file.
-fn on_file(engine: Engine, file: &[u8]) -> Outcome {
+fn on_file(engine: Engine, file: &[u8]) -> Reply {
     match engine {
         Engine::Proved => proved::on_file(file),
         Engine::Second => other::on_file(file),
@@ -166,14 +166,14 @@ fn on_file(engine: Engine, file: &[u8]) -> Outcome {
 }
 
 // The same, with the file as the first buffer.
-fn with_file(engine: Engine, size: usize, buffers: &[u32]) -> Outcome {
+fn with_file(engine: Engine, size: usize, buffers: &[u32]) -> Reply {
     let mut file = [0u8; 32769];
     to_bytes(numbers_from(buffers, 0, size), &mut file);
     on_file(engine, bytes_between(&file, 0, size))
 }
 
 // The text of `ask` for a file.
-fn on_text(engine: Engine, file: &[u8], text: &mut [u8; 262144]) -> Outcome {
+fn on_text(engine: Engine, file: &[u8], text: &mut [u8; 262144]) -> Reply {
     match engine {
         Engine::Proved => proved::on_text(file, text),
         Engine::Second => other::on_text(file, text),
@@ -181,13 +181,13 @@ fn on_text(engine: Engine, file: &[u8], text: &mut [u8; 262144]) -> Outcome {
 }
 
 // The same, with the file as the first buffer and the text as the second.
-fn with_text(engine: Engine, size: usize, buffers: &mut [u32]) -> Outcome {
+fn with_text(engine: Engine, size: usize, buffers: &mut [u32]) -> Reply {
     let mut file = [0u8; 32769];
     let mut text = [0u8; 262144];
     lend_text(size, buffers, &mut file, &mut text);
-    let outcome = on_text(engine, bytes_between(&file, 0, size), &mut text);
+    let reply = on_text(engine, bytes_between(&file, 0, size), &mut text);
     take_text(&text, buffers);
-    outcome
+    reply
 }
 
 // Runs an operation with a first buffer and a second buffer of those sizes.
@@ -199,7 +199,7 @@ pub fn run(
     first: usize,
     second: usize,
     buffers: &mut [u32],
-) -> Outcome {
+) -> Reply {
     match operation {
         Operation::CheckNet => on_words(engine, n, words),
         Operation::Completion => with_list(engine, n, words, first, second, buffers),

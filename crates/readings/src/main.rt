@@ -1,6 +1,6 @@
 // Runs the cases of standard input on the proved operations and on the second engine, and says of each whether they agree.
 
-mod outcomes; // outcomes.rt: number and values of the proved operations' answers
+mod replies; // replies.rt: number and values of the proved operations' answers
 mod proved; // proved.rt: the proved operations
 mod other; // other.rt: the second engine's operations
 mod engines; // engines.rt: one case on one engine

@@ -1,17 +1,17 @@
 // The operations of the second engine.
-use crate::outcomes::narrow;
-use crate::outcomes::row;
+use crate::replies::narrow;
+use crate::replies::reply;
 use readings_cases::operations::Numbers;
 use readings_cases::operations::Operation;
-use second::Outcome;
+use second::Reply;
 
 // The check of a net.
-pub fn on_words(n: Numbers, words: &[u32]) -> Outcome {
+pub fn on_words(n: Numbers, words: &[u32]) -> Reply {
     second::check_net(n.o, n.k, words)
 }
 
 // An operation that is lent marks alone.
-pub fn on_marks(operation: Operation, n: Numbers, words: &[u32], marks: &mut [u8]) -> Outcome {
+pub fn on_marks(operation: Operation, n: Numbers, words: &[u32], marks: &mut [u8]) -> Reply {
     match operation {
         Operation::ForwardScan => second::forward_scan(n.o, n.k, words, n.x, n.y, marks),
         Operation::KindScan => second::kind_scan(n.o, n.k, words, n.x, n.y, marks),
@@ -21,26 +21,26 @@ pub fn on_marks(operation: Operation, n: Numbers, words: &[u32], marks: &mut [u8
 }
 
 // The completion.
-pub fn on_list(n: Numbers, words: &[u32], marks: &mut [u8], list: &mut [u32]) -> Outcome {
+pub fn on_list(n: Numbers, words: &[u32], marks: &mut [u8], list: &mut [u32]) -> Reply {
     second::completion(n.o, n.k, words, marks, list)
 }
 
 // The reason.
-pub fn on_scratch(n: Numbers, words: &[u32], scratch: &mut [u16], list: &mut [u16]) -> Outcome {
+pub fn on_scratch(n: Numbers, words: &[u32], scratch: &mut [u16], list: &mut [u16]) -> Reply {
     second::reason(n.o, n.k, words, n.x, n.y, n.sign, scratch, list)
 }
 
 // The check of a reason.
-pub fn on_reason(n: Numbers, words: &[u32], list: &[u16]) -> Outcome {
+pub fn on_reason(n: Numbers, words: &[u32], list: &[u16]) -> Reply {
     second::reason_check(n.o, n.k, words, n.x, n.y, n.sign, list)
 }
 
 // The contents of a file.
-pub fn on_file(file: &[u8]) -> Outcome {
+pub fn on_file(file: &[u8]) -> Reply {
     second::read_file(file)
 }
 
 // The text of `ask`: its length.
-pub fn on_text(file: &[u8], text: &mut [u8; 262144]) -> Outcome {
-    row(0, narrow(second::ask_text(file, text)), 0)
+pub fn on_text(file: &[u8], text: &mut [u8; 262144]) -> Reply {
+    reply(0, narrow(second::ask_text(file, text)), 0)
 }

@@ -1,13 +1,13 @@
-// The proved operations, each as an outcome: those that C links by their exported functions, the reader and the text of `ask` by their own.
-use crate::outcomes::contents_row;
-use crate::outcomes::narrow;
-use crate::outcomes::row;
-use crate::outcomes::row_given;
+// The proved operations, each as a reply: those that C links by their exported functions, the reader and the text of `ask` by their own.
+use crate::replies::contents_reply;
+use crate::replies::narrow;
+use crate::replies::reply;
+use crate::replies::reply_given;
 use ask_text::answer_file;
 use netfile::read_contents;
 use readings_cases::operations::Numbers;
 use readings_cases::operations::Operation;
-use second::Outcome;
+use second::Reply;
 use strumelka::strumelka_check_net;
 use strumelka::strumelka_clash;
 use strumelka::strumelka_completion;
@@ -18,14 +18,14 @@ use strumelka::strumelka_reason;
 use strumelka::strumelka_reason_check;
 
 // The check of a net.
-pub fn on_words(n: Numbers, words: &[u32]) -> Outcome {
-    row_given(strumelka_check_net(n.o, n.k, words))
+pub fn on_words(n: Numbers, words: &[u32]) -> Reply {
+    reply_given(strumelka_check_net(n.o, n.k, words))
 }
 
 // An operation that is lent marks alone.
-pub fn on_marks(operation: Operation, n: Numbers, words: &[u32], marks: &mut [u8]) -> Outcome {
+pub fn on_marks(operation: Operation, n: Numbers, words: &[u32], marks: &mut [u8]) -> Reply {
     match operation {
-        Operation::ForwardScan => row_given(strumelka_forward_scan(
+        Operation::ForwardScan => reply_given(strumelka_forward_scan(
             n.o,
             n.k,
             words,
@@ -33,33 +33,33 @@ pub fn on_marks(operation: Operation, n: Numbers, words: &[u32], marks: &mut [u8
             n.y,
             marks,
         )),
-        Operation::KindScan => row_given(strumelka_kind_scan(n.o, n.k, words, n.x, n.y, marks)),
-        Operation::Question => row_given(strumelka_question(n.o, n.k, words, n.x, n.y, marks)),
-        _ => row_given(strumelka_clash(n.o, n.k, words, marks)),
+        Operation::KindScan => reply_given(strumelka_kind_scan(n.o, n.k, words, n.x, n.y, marks)),
+        Operation::Question => reply_given(strumelka_question(n.o, n.k, words, n.x, n.y, marks)),
+        _ => reply_given(strumelka_clash(n.o, n.k, words, marks)),
     }
 }
 
 // The completion.
-pub fn on_list(n: Numbers, words: &[u32], marks: &mut [u8], list: &mut [u32]) -> Outcome {
-    row_given(strumelka_completion(n.o, n.k, words, marks, list))
+pub fn on_list(n: Numbers, words: &[u32], marks: &mut [u8], list: &mut [u32]) -> Reply {
+    reply_given(strumelka_completion(n.o, n.k, words, marks, list))
 }
 
 // The reason.
-pub fn on_scratch(n: Numbers, words: &[u32], scratch: &mut [u16], list: &mut [u16]) -> Outcome {
-    row_given(strumelka_reason(n.o, n.k, words, n.x, n.y, n.sign, scratch, list))
+pub fn on_scratch(n: Numbers, words: &[u32], scratch: &mut [u16], list: &mut [u16]) -> Reply {
+    reply_given(strumelka_reason(n.o, n.k, words, n.x, n.y, n.sign, scratch, list))
 }
 
 // The check of a reason.
-pub fn on_reason(n: Numbers, words: &[u32], list: &[u16]) -> Outcome {
-    row_given(strumelka_reason_check(n.o, n.k, words, n.x, n.y, n.sign, list))
+pub fn on_reason(n: Numbers, words: &[u32], list: &[u16]) -> Reply {
+    reply_given(strumelka_reason_check(n.o, n.k, words, n.x, n.y, n.sign, list))
 }
 
 // The contents of a file.
-pub fn on_file(file: &[u8]) -> Outcome {
-    contents_row(read_contents(file))
+pub fn on_file(file: &[u8]) -> Reply {
+    contents_reply(read_contents(file))
 }
 
 // The text of `ask`: its length.
-pub fn on_text(file: &[u8], text: &mut [u8; 262144]) -> Outcome {
-    row(0, narrow(answer_file(file, text)), 0)
+pub fn on_text(file: &[u8], text: &mut [u8; 262144]) -> Reply {
+    reply(0, narrow(answer_file(file, text)), 0)
 }

@@ -1,4 +1,4 @@
 pub mod Written
 pub mod NetReason
-pub mod Rows
+pub mod Replies
 pub mod Readings

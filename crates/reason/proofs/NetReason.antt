@@ -1,4 +1,4 @@
--- The table's rows for a net of n nodes, and the net's facts that the search and the walk ask for.
+-- The table's clauses for a net of n nodes, and the net's facts that the search and the walk ask for.
 use Prim.Native.Nat.{ℕ, _+_, _≤_, _<_}
 use mathlib.Core.Path.{_≡_, sym, ap, _∙_}
 use mathlib.Core.Bool.{Bool, true, false}
@@ -10,15 +10,15 @@ use lib.Seq.{take-at}
 use Rattle.theory.specs.Words.{Sign, signAt}
 use Rattle.theory.specs.Nets.{Net}
 use Rattle.theory.specs.Searches.{distances, reasonStates}
-use Rattle.theory.proofs.Distances.{distances-length}
-use Rattle.theory.proofs.Searching.{next-state}
-use Rattle.net.specs.Lines.{call}
+use Rattle.theory.proofs.reason.Distances.{distances-length}
+use Rattle.theory.proofs.reason.Searching.{next-state}
+use Rattle.net.specs.Clauses.{call}
 use Rattle.net.specs.Table.{checkNet, badStatement}
 use Rattle.net.specs.declared.Refusal.the-variants.{BadQuestion, ShortBuffer}
 use Rattle.net.specs.declared.Checked.the-variants as checked
 use Rattle.net.proofs.NetCheck.{check-is-net}
 use Rattle.reason_walk.specs.Walk.{Leads}
-use Rattle.reason.specs.Table.{reason, reasonLines, reasonDone}
+use Rattle.reason.specs.Table.{reasonOutcome, reasonClauses, reasonDone}
 use Rattle.reason.specs.Searched.{reasonFrom}
 use Rattle.reason.specs.declared.Reasoned.{Reasoned}
 use Rattle.reason.specs.declared.Reasoned.the-variants.{Refused}
@@ -55,22 +55,22 @@ module _ (n : ℕ) (s : Sign) (ws : List ℕ) (y : ℕ) (d b : List ℕ) (found 
 
 -- The code's test of the statement said `bad`.
 module _ (o n : ℕ) (ws : List ℕ) (x y sign : ℕ) (d l : List ℕ) {bad : Bool} (told : bad ≡ badStatement o n x y sign) where
-  -- Row 4.
-  pub net-bad : bad ≡ true → reason (Refused BadQuestion) d l ≡ call (reasonLines o ws x y sign d l n) (reasonDone ws x y sign d l n)
+  -- Number 4.
+  pub net-bad : bad ≡ true → reasonOutcome (Refused BadQuestion) d l ≡ call (reasonClauses o ws x y sign d l n) (reasonDone ws x y sign d l n)
   net-bad h = rw (← told, h)
 
   module _ (said : bad ≡ false) where
     good : badStatement o n x y sign ≡ false
     good = sym told ∙ said
 
-    -- Row 5.
-    pub net-short : length d < n + n → reason (Refused ShortBuffer) d l ≡ call (reasonLines o ws x y sign d l n) (reasonDone ws x y sign d l n)
+    -- Number 5.
+    pub net-short : length d < n + n → reasonOutcome (Refused ShortBuffer) d l ≡ call (reasonClauses o ws x y sign d l n) (reasonDone ws x y sign d l n)
     net-short h = rw (good, lt-ltb (length d) (n + n) h)
 
-    -- Rows 7, 8 and 0 over the distances.
+    -- Numbers 7, 8 and 0 over the distances.
     pub net-searched : n + n ≤ length d → (b : List ℕ) → b ≡ distances n (signAt sign) ws y → (r : Reasoned) (m : List ℕ)
-        → ((past : List ℕ) → reason r past m ≡ reasonFrom n (signAt sign) ws x (take (n + n) (b ++ drop (n + n) d)) past l)
-        → reason r (b ++ drop (n + n) d) m ≡ call (reasonLines o ws x y sign d l n) (reasonDone ws x y sign d l n)
+        → ((past : List ℕ) → reasonOutcome r past m ≡ reasonFrom n (signAt sign) ws x (take (n + n) (b ++ drop (n + n) d)) past l)
+        → reasonOutcome r (b ++ drop (n + n) d) m ≡ call (reasonClauses o ws x y sign d l n) (reasonDone ws x y sign d l n)
     unfolding reasonStates
     net-searched h b e r m f =
         let g = rw (front n (signAt sign) ws y d b e) at f in

@@ -1,4 +1,4 @@
--- Reasons by computation: the paper's example, ties, the rows and their order.
+-- Reasons by computation: the paper's example, ties, the numbers and their order.
 use mathlib.Core.Path.{_≡_, refl}
 use mathlib.Core.List.{[], _∷_}
 use lib.ListN.{replicate}
@@ -7,101 +7,101 @@ use Rattle.theory.specs.Searches.{arcs, level, levels, distances, next, descend
 use Rattle.theory.specs.NetM.{M}
 use Rattle.net.specs.Legal.{legalPrefix}
 use Rattle.net.specs.declared.Refusal.the-variants.{TooManyNodes, IllegalWord, BadQuestion, ShortBuffer}
-use Rattle.reason.specs.Table.{reason, reasoned}
+use Rattle.reason.specs.Table.{reasonOutcome, reasoned}
 use Rattle.reason.specs.declared.Reasoned.the-variants.{Done, Unsupported, Short, Refused}
 
 -- M, 0 ↛ 5: seven places; a place of the scratch past 2N stays as it was.
 pub reason-of-m : reasoned 2 4 M 0 5 1 (replicate 13 7) (replicate 7 9)
-    ≡ reason (Done 7) (4 ∷ never ∷ 3 ∷ never ∷ never ∷ never ∷ never ∷ never ∷ never ∷ 2 ∷ 1 ∷ 0 ∷ 7 ∷ []) (2 ∷ 3 ∷ 0 ∷ 2 ∷ 3 ∷ 4 ∷ 5 ∷ [])
+    ≡ reasonOutcome (Done 7) (4 ∷ never ∷ 3 ∷ never ∷ never ∷ never ∷ never ∷ never ∷ never ∷ 2 ∷ 1 ∷ 0 ∷ 7 ∷ []) (2 ∷ 3 ∷ 0 ∷ 2 ∷ 3 ∷ 4 ∷ 5 ∷ [])
 unfolding legalPrefix distances levels level arcs reasonStates descend next firsts reasonList
 reason-of-m = refl
 
 -- Places of the list past the reason stay as they were.
 pub places-past-the-list : reasoned 2 4 M 0 5 1 (replicate 12 7) (replicate 9 9)
-    ≡ reason (Done 7) (4 ∷ never ∷ 3 ∷ never ∷ never ∷ never ∷ never ∷ never ∷ never ∷ 2 ∷ 1 ∷ 0 ∷ []) (2 ∷ 3 ∷ 0 ∷ 2 ∷ 3 ∷ 4 ∷ 5 ∷ 9 ∷ 9 ∷ [])
+    ≡ reasonOutcome (Done 7) (4 ∷ never ∷ 3 ∷ never ∷ never ∷ never ∷ never ∷ never ∷ never ∷ 2 ∷ 1 ∷ 0 ∷ []) (2 ∷ 3 ∷ 0 ∷ 2 ∷ 3 ∷ 4 ∷ 5 ∷ 9 ∷ 9 ∷ [])
 unfolding legalPrefix distances levels level arcs reasonStates descend next firsts reasonList
 places-past-the-list = refl
 
--- Room for six is row 8, which asks for seven: the scratch is filled, the list unchanged.
+-- Room for six is number 8, which asks for seven: the scratch is filled, the list unchanged.
 pub list-too-short : reasoned 2 4 M 0 5 1 (replicate 13 7) (replicate 6 9)
-    ≡ reason (Short 7) (4 ∷ never ∷ 3 ∷ never ∷ never ∷ never ∷ never ∷ never ∷ never ∷ 2 ∷ 1 ∷ 0 ∷ 7 ∷ []) (replicate 6 9)
+    ≡ reasonOutcome (Short 7) (4 ∷ never ∷ 3 ∷ never ∷ never ∷ never ∷ never ∷ never ∷ never ∷ 2 ∷ 1 ∷ 0 ∷ 7 ∷ []) (replicate 6 9)
 unfolding legalPrefix distances levels level arcs reasonStates descend next firsts reasonList
 list-too-short = refl
 
 -- A kind is itself, by no link.
 pub kind-is-itself : reasoned 2 4 M 2 2 0 (replicate 12 7) (replicate 3 9)
-    ≡ reason (Done 3) (1 ∷ never ∷ 0 ∷ never ∷ never ∷ never ∷ never ∷ never ∷ never ∷ never ∷ never ∷ never ∷ []) (1 ∷ 0 ∷ 2 ∷ [])
+    ≡ reasonOutcome (Done 3) (1 ∷ never ∷ 0 ∷ never ∷ never ∷ never ∷ never ∷ never ∷ never ∷ never ∷ never ∷ never ∷ []) (1 ∷ 0 ∷ 2 ∷ [])
 unfolding legalPrefix distances levels level arcs reasonStates descend next firsts reasonList
 kind-is-itself = refl
 
 -- A kind is not itself where a link says so: the crossing joins it to itself.
 pub kind-is-not-itself : reasoned 0 1 (1 ∷ []) 0 0 1 (replicate 2 7) (replicate 4 9)
-    ≡ reason (Done 4) (1 ∷ 0 ∷ []) (1 ∷ 1 ∷ 0 ∷ 0 ∷ [])
+    ≡ reasonOutcome (Done 4) (1 ∷ 0 ∷ []) (1 ∷ 1 ∷ 0 ∷ 0 ∷ [])
 unfolding legalPrefix distances levels level arcs reasonStates descend next firsts reasonList
 kind-is-not-itself = refl
 
--- No path: row 7, the scratch is filled, the list unchanged.
+-- No path: number 7, the scratch is filled, the list unchanged.
 pub not-supported : reasoned 2 4 M 3 4 0 (replicate 13 7) (replicate 3 9)
-    ≡ reason Unsupported (never ∷ 2 ∷ never ∷ never ∷ 0 ∷ 1 ∷ never ∷ never ∷ never ∷ never ∷ never ∷ never ∷ 7 ∷ []) (replicate 3 9)
+    ≡ reasonOutcome Unsupported (never ∷ 2 ∷ never ∷ never ∷ 0 ∷ 1 ∷ never ∷ never ∷ never ∷ never ∷ never ∷ never ∷ 7 ∷ []) (replicate 3 9)
 unfolding legalPrefix distances levels level arcs reasonStates descend next firsts reasonList
 not-supported = refl
 
--- Row 7 comes before row 8.
+-- Number 7 comes before number 8.
 pub not-supported-and-no-room : reasoned 2 4 M 3 4 0 (replicate 12 7) []
-    ≡ reason Unsupported (never ∷ 2 ∷ never ∷ never ∷ 0 ∷ 1 ∷ never ∷ never ∷ never ∷ never ∷ never ∷ never ∷ []) []
+    ≡ reasonOutcome Unsupported (never ∷ 2 ∷ never ∷ never ∷ 0 ∷ 1 ∷ never ∷ never ∷ never ∷ never ∷ never ∷ never ∷ []) []
 unfolding legalPrefix distances levels level arcs reasonStates descend next firsts reasonList
 not-supported-and-no-room = refl
 
 -- 0 → 2 ↛ 3 and 0 ↛ 1 ← 3 have two links each: staying in the first part wins over the smaller node.
 pub staying-beats-crossing : reasoned 0 4 (3 ∷ 6146 ∷ 4 ∷ 4103 ∷ []) 0 3 1 (replicate 8 7) (replicate 5 9)
-    ≡ reason (Done 5) (2 ∷ never ∷ 1 ∷ never ∷ never ∷ 1 ∷ never ∷ 0 ∷ []) (2 ∷ 1 ∷ 0 ∷ 2 ∷ 3 ∷ [])
+    ≡ reasonOutcome (Done 5) (2 ∷ never ∷ 1 ∷ never ∷ never ∷ 1 ∷ never ∷ 0 ∷ []) (2 ∷ 1 ∷ 0 ∷ 2 ∷ 3 ∷ [])
 unfolding legalPrefix distances levels level arcs reasonStates descend next firsts reasonList
 staying-beats-crossing = refl
 
 -- 0 → 2 → 3 and 0 → 1 → 3 have two links each: the smaller node wins.
 pub smaller-node-wins : reasoned 0 4 (4 ∷ 4102 ∷ 2 ∷ 2054 ∷ []) 0 3 0 (replicate 8 7) (replicate 5 9)
-    ≡ reason (Done 5) (2 ∷ 1 ∷ 1 ∷ 0 ∷ never ∷ never ∷ never ∷ never ∷ []) (3 ∷ 0 ∷ 0 ∷ 1 ∷ 3 ∷ [])
+    ≡ reasonOutcome (Done 5) (2 ∷ 1 ∷ 1 ∷ 0 ∷ never ∷ never ∷ never ∷ never ∷ []) (3 ∷ 0 ∷ 0 ∷ 1 ∷ 3 ∷ [])
 unfolding legalPrefix distances levels level arcs reasonStates descend next firsts reasonList
 smaller-node-wins = refl
 
 -- An object stands in no second part: its link 0 ↛ 1 is no way from 1 back to it.
 pub object-in-no-second-part : reasoned 1 2 (3 ∷ []) 1 1 1 (replicate 6 7) []
-    ≡ reason Unsupported (1 ∷ never ∷ never ∷ never ∷ 0 ∷ never ∷ []) []
+    ≡ reasonOutcome Unsupported (1 ∷ never ∷ never ∷ never ∷ 0 ∷ never ∷ []) []
 unfolding legalPrefix distances levels level arcs reasonStates descend next firsts reasonList
 object-in-no-second-part = refl
 
--- Sign 2 is row 4; it comes before a short scratch.
+-- Sign 2 is number 4; it comes before a short scratch.
 pub sign-above-one : reasoned 2 4 M 0 5 2 [] []
-    ≡ reason (Refused BadQuestion) [] []
+    ≡ reasonOutcome (Refused BadQuestion) [] []
 unfolding legalPrefix distances levels level arcs reasonStates descend next firsts reasonList
 sign-above-one = refl
 
 -- So does a start that is no node.
 pub no-such-node : reasoned 2 4 M 6 5 0 [] []
-    ≡ reason (Refused BadQuestion) [] []
+    ≡ reasonOutcome (Refused BadQuestion) [] []
 unfolding legalPrefix distances levels level arcs reasonStates descend next firsts reasonList
 no-such-node = refl
 
 -- So does an end that is an object.
 pub no-kind : reasoned 2 4 M 0 1 0 [] []
-    ≡ reason (Refused BadQuestion) [] []
+    ≡ reasonOutcome (Refused BadQuestion) [] []
 unfolding legalPrefix distances levels level arcs reasonStates descend next firsts reasonList
 no-kind = refl
 
--- A scratch of 2N − 1 places is row 5; it comes before a short list.
+-- A scratch of 2N − 1 places is number 5; it comes before a short list.
 pub scratch-too-short : reasoned 2 4 M 0 5 1 (replicate 11 7) []
-    ≡ reason (Refused ShortBuffer) (replicate 11 7) []
+    ≡ reasonOutcome (Refused ShortBuffer) (replicate 11 7) []
 unfolding legalPrefix distances levels level arcs reasonStates descend next firsts reasonList
 scratch-too-short = refl
 
--- Rows 1 to 3 come before these.
+-- Numbers 1 to 3 come before these.
 pub illegal-word-first : reasoned 1 1 (2 ∷ 0 ∷ []) 9 9 9 [] []
-    ≡ reason (Refused (IllegalWord 1)) [] []
+    ≡ reasonOutcome (Refused (IllegalWord 1)) [] []
 unfolding legalPrefix distances levels level arcs reasonStates descend next firsts reasonList
 illegal-word-first = refl
 
--- Row 1 comes before all.
+-- Number 1 comes before all.
 pub too-many-nodes-first : reasoned 1 1024 (0 ∷ []) 9 9 9 [] []
-    ≡ reason (Refused TooManyNodes) [] []
+    ≡ reasonOutcome (Refused TooManyNodes) [] []
 unfolding legalPrefix distances levels level arcs reasonStates descend next firsts reasonList
 too-many-nodes-first = refl

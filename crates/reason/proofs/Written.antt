@@ -1,4 +1,4 @@
--- Rows 7, 8 and 0 over places that are found, in the terms of the code.
+-- Numbers 7, 8 and 0 over places that are found, in the terms of the code.
 use Prim.Native.Nat.{ℕ, suc, _+_, _-_, _≤_, _<_}
 use mathlib.Core.Path.{_≡_, refl, sym, ap, _∙_}
 use mathlib.Core.Bool.{false}
@@ -11,11 +11,11 @@ use lib.Seq.{take-all, drop-at, drop-drop, length-take-le}
 use Rattle.theory.specs.Words.{Sign}
 use Rattle.theory.specs.Reasons.{never}
 use Rattle.theory.specs.Searches.{firsts, nodeOf, reasonList}
-use Rattle.theory.proofs.Best.{descend-length}
+use Rattle.theory.proofs.reason.Best.{descend-length}
 use Rattle.reason_search.proofs.Opening.{at-place}
 use Rattle.reason_walk.specs.Walk.{statesFrom}
 use Rattle.reason_walk.proofs.Nearer.{part-small}
-use Rattle.reason.specs.Table.{reason}
+use Rattle.reason.specs.Table.{reasonOutcome}
 use Rattle.reason.specs.Searched.{reasonFrom}
 use Rattle.reason.specs.declared.Reasoned.the-variants.{Done, Unsupported, Short}
 
@@ -70,16 +70,16 @@ module _ (n : ℕ) (s : Sign) (ws : List ℕ) (x : ℕ) (d l : List ℕ) (inside
   all-length : length (reasonList n x states) ≡ 3 + getD d x 0
   all-length = ap length (list-is n x states) ∙ omega (arith, map-length (nodeOf n) states, length-states, same-place)
 
-  -- Row 7.
-  pub from-unsupported : getD d x 0 ≡ never → (past : List ℕ) → reason Unsupported past l ≡ reasonFrom n s ws x d past l
+  -- Number 7.
+  pub from-unsupported : getD d x 0 ≡ never → (past : List ℕ) → reasonOutcome Unsupported past l ≡ reasonFrom n s ws x d past l
   from-unsupported e past = rw (eq-eqb (getD d x never) never (same-place ∙ e))
 
   module _ (found : getD d x 0 ≡ never → ⊥) where
     not-never : eqb (getD d x never) never ≡ false
     not-never = ne-eqb (getD d x never) never (λ (e : getD d x never ≡ never). found (sym same-place ∙ e))
 
-    -- Row 8.
-    pub from-short : length l < 3 + getD d x 0 → (past : List ℕ) → reason (Short (3 + getD d x 0)) past l ≡ reasonFrom n s ws x d past l
+    -- Number 8.
+    pub from-short : length l < 3 + getD d x 0 → (past : List ℕ) → reasonOutcome (Short (3 + getD d x 0)) past l ≡ reasonFrom n s ws x d past l
     from-short h past = rw (not-never, all-length, lt-ltb (length l) (3 + getD d x 0) h)
 
     all-is : (count : ℕ) → count ≡ firsts n states → reasonList n x states ≡ (1 + count) ∷ (getD d x 0 - count) ∷ x ∷ map (nodeOf n) states
@@ -88,11 +88,11 @@ module _ (n : ℕ) (s : Sign) (ws : List ℕ) (x : ℕ) (d l : List ℕ) (inside
         let b : length states - firsts n states ≡ getD d x 0 - count = omega (arith, length-states, same-place) in
         list-is n x states ∙ cc
 
-    -- Row 0: the count of the first part, the lent rest of the list that came back, and the places in front.
+    -- Number 0: the count of the first part, the lent rest of the list that came back, and the places in front.
     pub from-done : {count : ℕ} {ys r : List ℕ} → 3 + getD d x 0 ≤ length l → count ≡ firsts n states
         → ys ≡ map (nodeOf n) states ++ drop (getD d x never) (take (length l - 3) (drop 3 l))
         → r ≡ (1 + count) ∷ (getD d x 0 - count) ∷ x ∷ drop 3 (take 3 l ++ (ys ++ drop (length l - 3) (drop 3 l)))
-        → (past : List ℕ) → reason (Done (3 + getD d x 0)) past r ≡ reasonFrom n s ws x d past l
+        → (past : List ℕ) → reasonOutcome (Done (3 + getD d x 0)) past r ≡ reasonFrom n s ws x d past l
     from-done {count} {ys} {r} h e f g past =
         let rest : drop 3 (take 3 l ++ (ys ++ drop (length l - 3) (drop 3 l))) ≡ map (nodeOf n) states ++ drop (3 + getD d x 0) l
         = lent-rest l (map (nodeOf n) states) (getD d x never) (omega arith) f ∙ rw same-place refl in

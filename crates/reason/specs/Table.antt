@@ -6,20 +6,20 @@ use lib.ListN.{length, getD, drop}
 use Rattle.theory.specs.Words.{signAt}
 use Rattle.theory.specs.Reasons.{never}
 use Rattle.theory.specs.Searches.{distances, reasonStates, reasonList}
-use Rattle.net.specs.Lines.{Line, line, call}
-use Rattle.net.specs.Table.{netLines, badStatement, Row, row, refusalRow}
+use Rattle.net.specs.Clauses.{Clause, clause, call}
+use Rattle.net.specs.Table.{netClauses, badStatement, Reply, reply, refusalReply}
 use Rattle.net.specs.declared.Refusal.the-variants.{BadQuestion, ShortBuffer}
 use Rattle.reason.specs.declared.Reasoned.{Reasoned}
 use Rattle.reason.specs.declared.Reasoned.the-variants.{Done, Unsupported, Short, Refused}
 
--- What a call leaves: its answer, the scratch and the list.
-pub record Reason : Type 0 where
+-- The outcome of a reason: its answer, the scratch and the list.
+pub record ReasonOutcome : Type 0 where
   pub answer : Reasoned
   pub scratch : List ℕ
   pub list : List ℕ
 
-abbrev pub reason : Reasoned → List ℕ → List ℕ → Reason
-reason r d l = record { answer = r; scratch = d; list = l }
+abbrev pub reasonOutcome : Reasoned → List ℕ → List ℕ → ReasonOutcome
+reasonOutcome r d l = record { answer = r; scratch = d; list = l }
 
 -- The scratch with the 2n distances in front, past them the places as they were.
 abbrev pub filled : List ℕ → ℕ → ℕ → List ℕ → ℕ → List ℕ
@@ -29,37 +29,37 @@ filled ws y sign d n = distances n (signAt sign) ws y ++ drop (n + n) d
 abbrev pub reasonOf : List ℕ → ℕ → ℕ → ℕ → ℕ → List ℕ
 reasonOf ws x y sign n = reasonList n x (reasonStates n (signAt sign) ws x y)
 
--- Lines 7 and 8 once the distances are found and stand in the scratch, which is left as `past`; `all` is the reason.
-abbrev pub foundLines : ℕ → List ℕ → List ℕ → List ℕ → List ℕ → List (Line Reason)
-foundLines x found all past l =
-    line 7 (eqb (getD found x never) never) (reason Unsupported past l)
-    ∷ line 8 (ltb (length l) (length all)) (reason (Short (length all)) past l)
+-- Clauses 7 and 8 once the distances are found and stand in the scratch, which is left as `past`; `all` is the reason.
+abbrev pub foundClauses : ℕ → List ℕ → List ℕ → List ℕ → List ℕ → List (Clause ReasonOutcome)
+foundClauses x found all past l =
+    clause 7 (eqb (getD found x never) never) (reasonOutcome Unsupported past l)
+    ∷ clause 8 (ltb (length l) (length all)) (reasonOutcome (Short (length all)) past l)
     ∷ []
 
--- Line 0: the reason in front of the list, past it the places as they were.
-abbrev pub foundDone : List ℕ → List ℕ → List ℕ → Reason
-foundDone all past l = reason (Done (length all)) past (all ++ drop (length all) l)
+-- Number 0: the reason in front of the list, past it the places as they were.
+abbrev pub foundDone : List ℕ → List ℕ → List ℕ → ReasonOutcome
+foundDone all past l = reasonOutcome (Done (length all)) past (all ++ drop (length all) l)
 
--- Lines 4, 5, 7 and 8 on n nodes.
-abbrev pub reasonLines : ℕ → List ℕ → ℕ → ℕ → ℕ → List ℕ → List ℕ → ℕ → List (Line Reason)
-reasonLines o ws x y sign d l n =
-    line 4 (badStatement o n x y sign) (reason (Refused BadQuestion) d l)
-    ∷ line 5 (ltb (length d) (n + n)) (reason (Refused ShortBuffer) d l)
-    ∷ foundLines x (distances n (signAt sign) ws y) (reasonOf ws x y sign n) (filled ws y sign d n) l
+-- Clauses 4, 5, 7 and 8 on n nodes.
+abbrev pub reasonClauses : ℕ → List ℕ → ℕ → ℕ → ℕ → List ℕ → List ℕ → ℕ → List (Clause ReasonOutcome)
+reasonClauses o ws x y sign d l n =
+    clause 4 (badStatement o n x y sign) (reasonOutcome (Refused BadQuestion) d l)
+    ∷ clause 5 (ltb (length d) (n + n)) (reasonOutcome (Refused ShortBuffer) d l)
+    ∷ foundClauses x (distances n (signAt sign) ws y) (reasonOf ws x y sign n) (filled ws y sign d n) l
 
-abbrev pub reasonDone : List ℕ → ℕ → ℕ → ℕ → List ℕ → List ℕ → ℕ → Reason
+abbrev pub reasonDone : List ℕ → ℕ → ℕ → ℕ → List ℕ → List ℕ → ℕ → ReasonOutcome
 reasonDone ws x y sign d l n = foundDone (reasonOf ws x y sign n) (filled ws y sign d n) l
 
-abbrev pub reasonTable : ℕ → ℕ → List ℕ → ℕ → ℕ → ℕ → List ℕ → List ℕ → List (Line Reason)
-reasonTable o k ws x y sign d l = netLines (λ r. reason (Refused r) d l) o k ws (reasonLines o ws x y sign d l (o + k))
+abbrev pub reasonTable : ℕ → ℕ → List ℕ → ℕ → ℕ → ℕ → List ℕ → List ℕ → List (Clause ReasonOutcome)
+reasonTable o k ws x y sign d l = netClauses (λ r. reasonOutcome (Refused r) d l) o k ws (reasonClauses o ws x y sign d l (o + k))
 
 -- The reason for x → y (sign 0) or x ↛ y (sign 1).
-abbrev pub reasoned : ℕ → ℕ → List ℕ → ℕ → ℕ → ℕ → List ℕ → List ℕ → Reason
+abbrev pub reasoned : ℕ → ℕ → List ℕ → ℕ → ℕ → ℕ → List ℕ → List ℕ → ReasonOutcome
 reasoned o k ws x y sign d l = call (reasonTable o k ws x y sign d l) (reasonDone ws x y sign d l (o + k))
 
 -- The paper's number and values for each answer.
-abbrev pub reasonedRow : Reasoned → Row
-reasonedRow (Done places) = row 0 places 0
-reasonedRow Unsupported = row 7 0 0
-reasonedRow (Short needed) = row 8 needed 0
-reasonedRow (Refused r) = refusalRow r
+abbrev pub reasonedReply : Reasoned → Reply
+reasonedReply (Done places) = reply 0 places 0
+reasonedReply Unsupported = reply 7 0 0
+reasonedReply (Short needed) = reply 8 needed 0
+reasonedReply (Refused r) = refusalReply r

@@ -6,9 +6,9 @@ ghost use lib.ListN.{length, drop};
 ghost use Rattle.theory.specs.Words.{signAt};
 ghost use Rattle.theory.specs.Nets.{Net};
 ghost use Rattle.reason_walk.specs.Walk.{Leads};
-ghost use Rattle.reason.specs.Table.{reason, reasonLines, reasonDone, reasoned};
+ghost use Rattle.reason.specs.Table.{reasonOutcome, reasonClauses, reasonDone, reasoned};
 ghost use Rattle.reason.specs.Searched.{reasonFrom};
-ghost use Rattle.net.specs.Lines.{call};
+ghost use Rattle.net.specs.Clauses.{call};
 use net::Checked;
 use net::Refusal;
 use net::check_net;
@@ -17,7 +17,7 @@ use reason_search::NEVER;
 use reason_search::find_distances;
 use reason_walk::write_nodes;
 
-// What a reason answers: the places written, that the statement is not supported (row 7), the places needed (row 8), or a refusal.
+// What a reason answers: the places written, that the statement is not supported (number 7), the places needed (number 8), or a refusal.
 pub enum Reasoned {
     Done(u32),
     Unsupported,
@@ -35,7 +35,7 @@ fn write_head(first: u16, second: u16, x: u16, list: &mut [u16])
     list[2] = x;
 }
 
-// Rows 7, 8 and 0 once the distances are known.
+// Numbers 7, 8 and 0 once the distances are known.
 fn write_reason(
     n: usize,
     sign: u32,
@@ -48,7 +48,7 @@ fn write_reason(
     requires room { ⌜ length (now places) ≡ n + n ⌝ }
     requires leads { ⌜ Leads n (signAt sign) (now words) (now places) ⌝ }
     requires start { ⌜ x < n ⌝ }
-    ensures { λ r. ⌜ ((past : List ℕ) → reason r past (now (list .exit)) ≡ reasonFrom n (signAt sign) (now (words .entry)) x (now (places .entry)) past (now (list .entry))) ⌝ }
+    ensures { λ r. ⌜ ((past : List ℕ) → reasonOutcome r past (now (list .exit)) ≡ reasonFrom n (signAt sign) (now (words .entry)) x (now (places .entry)) past (now (list .entry))) ⌝ }
 {
     let far = places[x];
     if far == NEVER {
@@ -64,7 +64,7 @@ fn write_reason(
     Reasoned::Done(size)
 }
 
-// Rows 4 and 5, then the distances and the reason, for a net of `n` nodes.
+// Numbers 4 and 5, then the distances and the reason, for a net of `n` nodes.
 fn reason_net(
     o: u32,
     n: usize,
@@ -76,7 +76,7 @@ fn reason_net(
     list: &mut [u16],
 ) -> Reasoned
     requires { ⌜ Net 0 n (now words) ⌝ }
-    ensures { λ r. ⌜ reason r (now (scratch .exit)) (now (list .exit)) ≡ call (reasonLines o (now (words .entry)) x y sign (now (scratch .entry)) (now (list .entry)) n) (reasonDone (now (words .entry)) x y sign (now (scratch .entry)) (now (list .entry)) n) ⌝ }
+    ensures { λ r. ⌜ reasonOutcome r (now (scratch .exit)) (now (list .exit)) ≡ call (reasonClauses o (now (words .entry)) x y sign (now (scratch .entry)) (now (list .entry)) n) (reasonDone (now (words .entry)) x y sign (now (scratch .entry)) (now (list .entry)) n) ⌝ }
 {
     if is_bad_statement(o, n, x, y, sign) {
         return Reasoned::Refused(Refusal::BadQuestion);
@@ -100,7 +100,7 @@ pub fn find_reason(
     scratch: &mut [u16],
     list: &mut [u16],
 ) -> Reasoned
-    ensures { λ r. ⌜ reason r (now (scratch .exit)) (now (list .exit)) ≡ reasoned o k (now (words .entry)) x y sign (now (scratch .entry)) (now (list .entry)) ⌝ }
+    ensures { λ r. ⌜ reasonOutcome r (now (scratch .exit)) (now (list .exit)) ≡ reasoned o k (now (words .entry)) x y sign (now (scratch .entry)) (now (list .entry)) ⌝ }
 {
     let net = check_net(o, k, words);
     match net {

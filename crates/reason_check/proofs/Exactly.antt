@@ -1,4 +1,4 @@
--- What each verdict means: which lists hold and which fail, and when row 4 or a refusal of the net is given.
+-- What each verdict means: which lists hold and which fail, and when number 4 or a refusal of the net is given.
 use Prim.Native.Nat.{ℕ, _+_, _<_}
 use mathlib.Core.Path.{_≡_, refl, sym, _∙_}
 use mathlib.Core.Bool.{Bool, true, false, cond}
@@ -6,7 +6,7 @@ use mathlib.Core.List.{List}
 use mathlib.Core.Logic.{_⊎_, inl, inr, _↔_, ⊎-elim}
 use native.Mathlib.Omega.{arith}
 use lib.ListN.{getD}
-use Rattle.theory_laws.proofs.Booleans.{clash, not-so}
+use Rattle.theory_laws.proofs.Booleans.{contradiction, not-so}
 use Rattle.theory_laws.proofs.Deciding.{decides-not}
 use Rattle.theory.specs.Words.{signAt}
 use Rattle.theory.specs.Nets.{Links, Net}
@@ -15,8 +15,8 @@ use Rattle.theory.specs.Reasons.{written, never}
 use Rattle.theory.specs.Searches.{distances, reasonStates, reasonList}
 use Rattle.theory.specs.Checks.{Passes, passes}
 use Rattle.theory.proofs.Inside.{legal-links}
-use Rattle.theory.proofs.Lemma1.{lemma1}
-use Rattle.theory.proofs.Check.{passes-exactly, passes-supported, reason-passes}
+use Rattle.theory.proofs.support.Lemma1.{lemma1}
+use Rattle.theory.proofs.reason.Check.{passes-exactly, passes-supported, reason-passes}
 use Rattle.net.specs.Table.{checkNet, badStatement}
 use Rattle.net.specs.Good.{GoodStatement}
 use Rattle.net.specs.declared.Refusal.{Refusal}
@@ -26,7 +26,7 @@ use Rattle.net.specs.declared.Checked.the-variants as checked
 use Rattle.net.proofs.NetCheck.{check-is-net, net-is-checked}
 use Rattle.net.proofs.OnNet.{passed-on, gone-on}
 use Rattle.net.proofs.Good.{good-statement, good-kind}
-use Rattle.reason_check.specs.Table.{checkLines, checkDone, verdict}
+use Rattle.reason_check.specs.Table.{checkClauses, checkDone, verdict}
 use Rattle.reason_check.specs.declared.Verdict.{Verdict}
 use Rattle.reason_check.specs.declared.Verdict.the-variants.{Holds, Fails, Refused}
 
@@ -58,10 +58,10 @@ module _ (o k : ℕ) (ws : List ℕ) (x y sign : ℕ) (l : List ℕ) where
 
   on-net : Net o k ws → judged bad good ≡ verdict o k ws x y sign l
   unfolding bad good
-  on-net net = gone-on Refused o k ws (checkLines o x y sign) (λ _. checkDone o k ws x y sign l) (net-is-checked o k ws net) refl
+  on-net net = gone-on Refused o k ws (checkClauses o x y sign) (λ _. checkDone o k ws x y sign l) (net-is-checked o k ws net) refl
 
   on-refusal : {r : Refusal} → checkNet o k ws ≡ checked.Refused r → Refused r ≡ verdict o k ws x y sign l
-  on-refusal e = passed-on Refused o k ws (checkLines o x y sign) (λ _. checkDone o k ws x y sign l) e
+  on-refusal e = passed-on Refused o k ws (checkClauses o x y sign) (λ _. checkDone o k ws x y sign l) e
 
   -- The check of the net accepts it, or its refusal is the verdict.
   data Case : Type 0 where
@@ -106,7 +106,7 @@ module _ (o k : ℕ) (ws : List ℕ) (x y sign : ℕ) (l : List ℕ) where
       at (accepted net j) e =
           let (b, g) = judged-fails bad good (j ∙ e) in
           let a = asked b in
-          (net, a, λ p. clash (sym g ∙ tested a .1 p))
+          (net, a, λ p. contradiction (sym g ∙ tested a .1 p))
       at (refused r f j) e = let z : _≡_ {A = ℕ} 0 1 = cc in absurd (omega arith)
 
       back : Net o k ws × GoodStatement o (o + k) x y sign × (Passes o k ws x y (signAt sign) l → ⊥) → verdict o k ws x y sign l ≡ Fails
@@ -114,7 +114,7 @@ module _ (o k : ℕ) (ws : List ℕ) (x y sign : ℕ) (l : List ℕ) where
           let f : good ≡ false = not-so good (λ (g : good ≡ true). h .2 (tested (h .1) .0 g)) in
           sym (on-net (h .0)) ∙ rw (is-asked (h .1), f)
 
-  -- It is refused exactly as the net is, or by row 4 where the statement may not be asked of an accepted net.
+  -- It is refused exactly as the net is, or by number 4 where the statement may not be asked of an accepted net.
   pub refused-exactly : (r : Refusal)
       → (verdict o k ws x y sign l ≡ Refused r)
       ↔ ((checkNet o k ws ≡ checked.Refused r) ⊎ (Net o k ws × (GoodStatement o (o + k) x y sign → ⊥) × (r ≡ BadQuestion)))
@@ -123,7 +123,7 @@ module _ (o k : ℕ) (ws : List ℕ) (x y sign : ℕ) (l : List ℕ) where
       at : Case → verdict o k ws x y sign l ≡ Refused r → (checkNet o k ws ≡ checked.Refused r) ⊎ (Net o k ws × (GoodStatement o (o + k) x y sign → ⊥) × (r ≡ BadQuestion))
       at (accepted net j) e =
           let (b, f) = judged-refused bad good r (j ∙ e) in
-          inr (net, (λ a. clash (sym (is-asked a) ∙ b)), f)
+          inr (net, (λ a. contradiction (sym (is-asked a) ∙ b)), f)
       at (refused q f j) e =
           let same : q ≡ r = cc in
           inl (rw same at f)

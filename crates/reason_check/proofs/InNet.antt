@@ -17,16 +17,16 @@ use Rattle.reason_check.specs.declared.Verdict.the-variants.{Fails}
 use Rattle.reason_check.proofs.Exactly.{fails-exactly}
 
 -- All of these are nodes of a net of n.
-abbrev Nodes : ℕ → List ℕ → Type 0
-Nodes n l = (v : ℕ) → List·Memᴰ v l → v < n
+abbrev AllNodes : ℕ → List ℕ → Type 0
+AllNodes n l = (v : ℕ) → List·Memᴰ v l → v < n
 
-none : {n : ℕ} → Nodes n []
+none : {n : ℕ} → AllNodes n []
 none v m = absurd (List·Memᴰ·not-nil m)
 
-one-more : {n u : ℕ} {l : List ℕ} → u < n → Nodes n l → Nodes n (u ∷ l)
+one-more : {n u : ℕ} {l : List ℕ} → u < n → AllNodes n l → AllNodes n (u ∷ l)
 one-more h r v m = ⊎-elim (λ e. rw e h) (r v) (List·Memᴰ·cases-cons m)
 
-joined : {n : ℕ} (s t : List ℕ) → Nodes n s → Nodes n t → Nodes n (s ++ t)
+joined : {n : ℕ} (s t : List ℕ) → AllNodes n s → AllNodes n t → AllNodes n (s ++ t)
 joined s t p q v m = ⊎-elim (p v) (q v) (List·Memᴰ·append-cases s m)
 
 module _ (o k : ℕ) (L : Statements) (legal : Legal o k L) where
@@ -43,15 +43,15 @@ module _ (o k : ℕ) (L : Statements) (legal : Legal o k L) where
   crossing-to u v (inl l) = legal .head u v isnt l .high
   crossing-to u v (inr l) = legal .tail v u isnt l
 
-  first-nodes : (x : ℕ) (xs : List ℕ) → First o k L x xs → Nodes (o + k) xs
+  first-nodes : (x : ℕ) (xs : List ℕ) → First o k L x xs → AllNodes (o + k) xs
   first-nodes x [] f = none
   first-nodes x (y ∷ ys) f = one-more (step-to x y (f .0)) (first-nodes y ys (f .1))
 
-  second-nodes : (y : ℕ) (ys : List ℕ) → Second o k L y ys → Nodes (o + k) ys
+  second-nodes : (y : ℕ) (ys : List ℕ) → Second o k L y ys → AllNodes (o + k) ys
   second-nodes y [] f = none
   second-nodes y (z ∷ zs) f = one-more (step-from z y (f .0)) (second-nodes z zs (f .1))
 
-  shown-nodes : (x : ℕ) (xs ys : List ℕ) (y : ℕ) (s : Sign) → x < o + k → Shows o k L x xs ys y s → Nodes (o + k) (x ∷ (xs ++ ys))
+  shown-nodes : (x : ℕ) (xs ys : List ℕ) (y : ℕ) (s : Sign) → x < o + k → Shows o k L x xs ys y s → AllNodes (o + k) (x ∷ (xs ++ ys))
   shown-nodes x xs [] y is h p = one-more h (joined xs [] (first-nodes x xs (p .0)) none)
   shown-nodes x xs [] y isnt h p = absurd p
   shown-nodes x xs (z ∷ zs) y is h p = absurd p

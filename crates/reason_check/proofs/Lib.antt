@@ -1,5 +1,5 @@
 pub mod Shape
-pub mod Rows
+pub mod Replies
 pub mod Readings
 pub mod Exactly
 pub mod InNet

@@ -109,7 +109,7 @@ pub outside : inM 0 5 1 (2 ∷ 3 ∷ 0 ∷ 2 ∷ 60000 ∷ 4 ∷ 5 ∷ []) ≡ F
 unfolding legalPrefix passes allSteps listed
 outside = refl
 
--- A kind alone shows that it is itself; of an object nothing is asked (row 4).
+-- A kind alone shows that it is itself; of an object nothing is asked (number 4).
 pub kind-alone : inM 3 3 0 (1 ∷ 0 ∷ 3 ∷ []) ≡ Holds
 unfolding legalPrefix passes allSteps listed
 kind-alone = refl
@@ -118,7 +118,7 @@ pub object-alone : inM 0 0 0 (1 ∷ 0 ∷ 0 ∷ []) ≡ Refused BadQuestion
 unfolding legalPrefix passes allSteps listed
 object-alone = refl
 
--- Row 4 for a start outside the net and for a sign above 1.
+-- Number 4 for a start outside the net and for a sign above 1.
 pub no-node : inM 6 5 1 (2 ∷ 3 ∷ 0 ∷ 2 ∷ 3 ∷ 4 ∷ 5 ∷ []) ≡ Refused BadQuestion
 unfolding legalPrefix passes allSteps listed
 no-node = refl
@@ -127,7 +127,7 @@ pub no-sign : inM 0 5 2 (2 ∷ 3 ∷ 0 ∷ 2 ∷ 3 ∷ 4 ∷ 5 ∷ []) ≡ Refus
 unfolding legalPrefix passes allSteps listed
 no-sign = refl
 
--- Row 1 and row 3 come first, also where the statement is none.
+-- Number 1 and number 3 come first, also where the statement is none.
 pub too-many-nodes : verdict 1024 1 [] 2000 0 2 [] ≡ Refused TooManyNodes
 unfolding legalPrefix passes allSteps listed
 too-many-nodes = refl

@@ -4,29 +4,29 @@ use mathlib.Core.Bool.{cond}
 use mathlib.Core.List.{List, [], _∷_}
 use Rattle.theory.specs.Words.{signAt}
 use Rattle.theory.specs.Checks.{passes}
-use Rattle.net.specs.Lines.{Line, line, call}
-use Rattle.net.specs.Table.{netLines, badStatement, Row, row, refusalRow}
+use Rattle.net.specs.Clauses.{Clause, clause, call}
+use Rattle.net.specs.Table.{netClauses, badStatement, Reply, reply, refusalReply}
 use Rattle.net.specs.declared.Refusal.the-variants.{BadQuestion}
 use Rattle.reason_check.specs.declared.Verdict.{Verdict}
 use Rattle.reason_check.specs.declared.Verdict.the-variants.{Holds, Fails, Refused}
 
--- Line 4 on n nodes.
-abbrev pub checkLines : ℕ → ℕ → ℕ → ℕ → ℕ → List (Line Verdict)
-checkLines o x y sign n = line 4 (badStatement o n x y sign) (Refused BadQuestion) ∷ []
+-- Clause 4 on n nodes.
+abbrev pub checkClauses : ℕ → ℕ → ℕ → ℕ → ℕ → List (Clause Verdict)
+checkClauses o x y sign n = clause 4 (badStatement o n x y sign) (Refused BadQuestion) ∷ []
 
--- Line 0: yes or no to the list.
+-- Number 0: yes or no to the list.
 abbrev pub checkDone : ℕ → ℕ → List ℕ → ℕ → ℕ → ℕ → List ℕ → Verdict
 checkDone o k ws x y sign l = cond (passes o k ws x y (signAt sign) l) Holds Fails
 
-abbrev pub checkTable : ℕ → ℕ → List ℕ → ℕ → ℕ → ℕ → List (Line Verdict)
-checkTable o k ws x y sign = netLines Refused o k ws (checkLines o x y sign (o + k))
+abbrev pub checkTable : ℕ → ℕ → List ℕ → ℕ → ℕ → ℕ → List (Clause Verdict)
+checkTable o k ws x y sign = netClauses Refused o k ws (checkClauses o x y sign (o + k))
 
 -- Whether the list is a path that shows x → y (sign 0) or x ↛ y (sign 1).
 abbrev pub verdict : ℕ → ℕ → List ℕ → ℕ → ℕ → ℕ → List ℕ → Verdict
 verdict o k ws x y sign l = call (checkTable o k ws x y sign) (checkDone o k ws x y sign l)
 
 -- The paper's number for each answer; that yes is the value 1 and no 0 is this project's.
-abbrev pub verdictRow : Verdict → Row
-verdictRow Holds = row 0 1 0
-verdictRow Fails = row 0 0 0
-verdictRow (Refused r) = refusalRow r
+abbrev pub verdictReply : Verdict → Reply
+verdictReply Holds = reply 0 1 0
+verdictReply Fails = reply 0 0 0
+verdictReply (Refused r) = refusalReply r

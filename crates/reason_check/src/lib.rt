@@ -2,8 +2,8 @@
 ghost use mathlib.Core.Path.{_≡_};
 ghost use Rattle.theory.specs.Words.{signAt};
 ghost use Rattle.theory.specs.Checks.{goesWith, passes};
-ghost use Rattle.reason_check.specs.Table.{checkLines, checkDone, verdict};
-ghost use Rattle.net.specs.Lines.{call};
+ghost use Rattle.reason_check.specs.Table.{checkClauses, checkDone, verdict};
+ghost use Rattle.net.specs.Clauses.{call};
 use net::Checked;
 use net::Refusal;
 use net::check_net;
@@ -54,7 +54,7 @@ fn is_path(o: u32, k: u32, words: &[u32], x: u32, y: u32, sign: u32, list: &[u16
     steps_hold(o, k, words, list)
 }
 
-// Row 4, and then the list.
+// Number 4, and then the list.
 fn check_list(
     o: u32,
     k: u32,
@@ -65,7 +65,7 @@ fn check_list(
     sign: u32,
     list: &[u16],
 ) -> Verdict
-    ensures { λ r. ⌜ r ≡ call (checkLines o x y sign n) (checkDone o k (now (words .entry)) x y sign (now (list .entry))) ⌝ }
+    ensures { λ r. ⌜ r ≡ call (checkClauses o x y sign n) (checkDone o k (now (words .entry)) x y sign (now (list .entry))) ⌝ }
 {
     if is_bad_statement(o, n, x, y, sign) {
         return Verdict::Refused(Refusal::BadQuestion);

@@ -5,15 +5,15 @@ use lib.Dec.{eqb, ltb, leb}
 use Rattle.theory.specs.Words.{tailOf, headOf, parity}
 
 -- The word w says x → y (p = 0), or x ↛ y (p = 1).
-abbrev pub says : ℕ → ℕ → ℕ → ℕ → Bool
-says x y p w = eqb (tailOf w) x && (eqb (headOf w) y && eqb (parity w) p)
+abbrev pub wordSays : ℕ → ℕ → ℕ → ℕ → Bool
+wordSays x y p w = eqb (tailOf w) x && (eqb (headOf w) y && eqb (parity w) p)
 
 -- The word w makes the step from u, which is the m-th node of the path, to v: forwards before node a, either way round at it, backwards after it.
 unfoldable pub makes : ℕ → ℕ → ℕ → ℕ → ℕ → Bool
 makes a m u v w =
-    cond (ltb m a) (says u v 0 w)
-    (cond (eqb m a) (says u v 1 w || says v u 1 w)
-    (says v u 0 w))
+    cond (ltb m a) (wordSays u v 0 w)
+    (cond (eqb m a) (wordSays u v 1 w || wordSays v u 1 w)
+    (wordSays v u 0 w))
 
 -- The step from u, which is the m-th node of the path, to v repeats a kind: not at node a, where the crossing needs a link.
 unfoldable pub repeats : ℕ → ℕ → ℕ → ℕ → ℕ → ℕ → Bool

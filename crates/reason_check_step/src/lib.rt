@@ -1,12 +1,12 @@
 // One step of a path: whether a word makes it, and whether it repeats a kind.
 ghost use mathlib.Core.Path.{_≡_};
-ghost use Rattle.reason_check_step.specs.Steps.{says, makes, repeats};
+ghost use Rattle.reason_check_step.specs.Steps.{wordSays, makes, repeats};
 use net::head_of;
 use net::tail_of;
 
 // Whether a word says x → y (`sign` 0) or x ↛ y (`sign` 1).
 fn word_says(word: u32, x: u16, y: u16, sign: u32) -> bool
-    ensures { λ r. ⌜ r ≡ says x y sign word ⌝ }
+    ensures { λ r. ⌜ r ≡ wordSays x y sign word ⌝ }
 {
     if tail_of(word) != x as usize {
         return false;

@@ -12,7 +12,7 @@ use lib.ListN.{length, getD, drop, drop-of-length-le}
 use lib.Seq.{drop-cons}
 use Rattle.theory_laws.proofs.Booleans.{or-assoc, or-true}
 use Rattle.theory.specs.Checks.{listed, stepAt, allSteps}
-use Rattle.reason_check_step.specs.Steps.{says, makes, repeats}
+use Rattle.reason_check_step.specs.Steps.{wordSays, makes, repeats}
 
 or-exchange : (p q r s : Bool) → ((p || q) || (r || s)) ≡ ((p || r) || (q || s))
 or-exchange true q r s = refl
@@ -52,9 +52,9 @@ module _ (o k a i u v : ℕ) where
   unfolding listed makes
   step-word w ws =
       choose-first (ltb (suc i) a) (eqb (suc i) a)
-      (says u v 0 w) (listed u v 0 ws) (eqb u v && (leb o u && ltb u (o + k)))
-      (says u v 1 w) (listed u v 1 ws) (says v u 1 w) (listed v u 1 ws)
-      (says v u 0 w) (listed v u 0 ws) (eqb v u && (leb o v && ltb v (o + k)))
+      (wordSays u v 0 w) (listed u v 0 ws) (eqb u v && (leb o u && ltb u (o + k)))
+      (wordSays u v 1 w) (listed u v 1 ws) (wordSays v u 1 w) (listed v u 1 ws)
+      (wordSays v u 0 w) (listed v u 0 ws) (eqb v u && (leb o v && ltb v (o + k)))
 
   repeat-steps : (ws : List ℕ) → repeats o k a (suc i) u v ≡ true → stepAt o k ws a i u v ≡ true
   repeat-steps [] h = step-none ∙ h

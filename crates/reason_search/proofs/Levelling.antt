@@ -10,7 +10,7 @@ use Rattle.theory.specs.Nets.{Kind, Net}
 use Rattle.theory.specs.Reasons.{goal, never}
 use Rattle.theory.specs.Searches.{arcs, level, levels, distances}
 use Rattle.theory.proofs.Inside.{Ends, at-member}
-use Rattle.theory.proofs.Searching.{arcsAt, level-go, levels-start, levels-go, search-stops, search-ends}
+use Rattle.theory.proofs.reason.Searching.{arcsAt, level-go, levels-start, levels-go, search-stops, search-ends}
 
 -- The ends of word j of a net are nodes.
 pub ends-at : (n : ℕ) (ws : List ℕ) → Net 0 n ws → (j : ℕ) → j < length ws → Ends n (getD ws j 0)

@@ -8,7 +8,7 @@ use native.Mathlib.Numerals.{add-one}
 use borrow.Author.Tests.{eq-eqb, ne-eqb}
 use lib.Dec.{eqb}
 use lib.ListN.{length, getD, set}
-use Rattle.theory_laws.proofs.Booleans.{clash}
+use Rattle.theory_laws.proofs.Booleans.{contradiction}
 use Rattle.theory.specs.Reasons.{never}
 use Rattle.theory.specs.Searches.{Arc, arc, level}
 use Rattle.reason_search.specs.Search.{Kept}
@@ -61,5 +61,5 @@ module _ (i : ℕ) (l : List Arc) (d : List ℕ) where
 
 -- One flag after another.
 pub kept-then : (f g : Bool) {a b c : List ℕ} → Kept f a b → Kept g b c → Kept (f || g) a c
-kept-then true g p q h = clash (sym h)
+kept-then true g p q h = contradiction (sym h)
 kept-then false g p q h = q h ∙ p refl

@@ -10,7 +10,7 @@ use lib.ListN.{length, getD, drop}
 use Rattle.theory.specs.Reasons.{never}
 use Rattle.theory.specs.Words.{Sign}
 use Rattle.theory.specs.Searches.{Arc, arc, arcs, next, nodeOf}
-use Rattle.theory.proofs.Searching.{arcsAt, next-go}
+use Rattle.theory.proofs.reason.Searching.{arcsAt, next-go}
 use Rattle.reason_search.proofs.Opening.{at-place}
 use Rattle.reason_walk.specs.Walk.{firstPart}
 

@@ -9,7 +9,7 @@ use lib.Seq.{take-suc-set, drop-set-lt}
 use Rattle.theory.specs.Words.{Sign}
 use Rattle.theory.specs.Reasons.{never}
 use Rattle.theory.specs.Searches.{arcs, next, descend, firsts, nodeOf}
-use Rattle.theory.proofs.Searching.{descend-go, descend-end}
+use Rattle.theory.proofs.reason.Searching.{descend-go, descend-end}
 use Rattle.reason_walk.specs.Walk.{Leads, statesFrom, firstPart}
 use Rattle.reason_walk.proofs.Nearer.{part-small}
 

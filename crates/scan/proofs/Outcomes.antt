@@ -11,15 +11,15 @@ use Rattle.theory_laws.proofs.Booleans.{or-true}
 use Rattle.theory.specs.Scans.{Scan, after, rounds}
 use Rattle.theory.specs.declared.Command.{Command}
 use Rattle.theory.proofs.Inside.{Inside, legal-inside}
-use Rattle.theory.proofs.Frame.{rounds-frame}
-use Rattle.theory.proofs.Budgets.{spent-marks}
-use Rattle.net.specs.Lines.{call}
+use Rattle.theory.proofs.machine.Frame.{rounds-frame}
+use Rattle.theory.proofs.machine.Budgets.{spent-marks}
+use Rattle.net.specs.Clauses.{call}
 use Rattle.net.specs.Table.{checkNet}
 use Rattle.net.specs.declared.Refusal.the-variants.{BadQuestion, ShortBuffer}
 use Rattle.net.specs.declared.Checked.the-variants.{Nodes}
 use Rattle.net.proofs.NetCheck.{check-is-net}
 use Rattle.scan_round.specs.Turns.{commands}
-use Rattle.scan.specs.Table.{Outcome, outcome, badStart, scanLines, scanDone}
+use Rattle.scan.specs.Table.{ScanOutcome, scanOutcome, badStart, scanClauses, scanDone}
 use Rattle.scan_start.specs.Starts.{start}
 use Rattle.scan.specs.declared.Scanned.the-variants.{Done, Spent, Refused}
 use Rattle.scan_round.proofs.Turns.{puts}
@@ -32,21 +32,21 @@ checked-inside o k ws n e =
     (rw (t .0) (legal-inside o k ws (t .1 .legal)), rw (t .0) (t .1 .few))
 
 -- The outcome of a scan that is over.
-abbrev pub over : Scan → Outcome
-over s = outcome (cond (s .done) (Done (s .count)) (Spent (s .count))) (s .marks)
+abbrev pub scanEnd : Scan → ScanOutcome
+scanEnd s = scanOutcome (cond (s .done) (Done (s .count)) (Spent (s .count))) (s .marks)
 
--- Where its budget is spent, the marks are those after that many rounds: lines 6 and 0.
+-- Where its budget is spent, the marks are those after that many rounds: numbers 6 and 0.
 module _ (cs : List Command) (ws m : List ℕ) (budget : ℕ) (past : List ℕ) where
   abbrev ran : Scan
   ran = rounds cs ws 0 budget m
 
-  pub scan-over : over (record { done = ran .done; count = ran .count; marks = ran .marks ++ past })
-      ≡ cond (not (ran .done)) (outcome (Spent budget) (after cs ws budget m ++ past)) (outcome (Done (ran .count)) (ran .marks ++ past))
-  scan-over = at (ran .done) refl
+  pub scan-end : scanEnd (record { done = ran .done; count = ran .count; marks = ran .marks ++ past })
+      ≡ cond (not (ran .done)) (scanOutcome (Spent budget) (after cs ws budget m ++ past)) (scanOutcome (Done (ran .count)) (ran .marks ++ past))
+  scan-end = at (ran .done) refl
     where
       at : (d : Bool) → ran .done ≡ d
-          → over (record { done = d; count = ran .count; marks = ran .marks ++ past })
-          ≡ cond (not d) (outcome (Spent budget) (after cs ws budget m ++ past)) (outcome (Done (ran .count)) (ran .marks ++ past))
+          → scanEnd (record { done = d; count = ran .count; marks = ran .marks ++ past })
+          ≡ cond (not d) (scanOutcome (Spent budget) (after cs ws budget m ++ past)) (scanOutcome (Done (ran .count)) (ran .marks ++ past))
       at true e = refl
       at false e = let s = spent-marks cs ws m budget e in rw (s .0, s .1)
 
@@ -55,39 +55,39 @@ either-way true = refl
 either-way false = refl
 
 module _ (kind : Bool) (o n : ℕ) (ws : List ℕ) (x b : ℕ) (m : List ℕ) where
-  bad : badStart kind o n x ≡ true → outcome (Refused BadQuestion) m ≡ call (scanLines kind o ws x b m n) (scanDone kind ws x b m n)
+  bad : badStart kind o n x ≡ true → scanOutcome (Refused BadQuestion) m ≡ call (scanClauses kind o ws x b m n) (scanDone kind ws x b m n)
   bad h = rw h
 
-  -- Row 4: the start is no node, or it is an object in the kind scan.
-  pub scan-far : n ≤ x → outcome (Refused BadQuestion) m ≡ call (scanLines kind o ws x b m n) (scanDone kind ws x b m n)
+  -- Number 4: the start is no node, or it is an object in the kind scan.
+  pub scan-far : n ≤ x → scanOutcome (Refused BadQuestion) m ≡ call (scanClauses kind o ws x b m n) (scanDone kind ws x b m n)
   scan-far h = bad (rw (le-leb n x h) (either-way kind))
 
-  pub scan-object : kind ≡ true → x < o → outcome (Refused BadQuestion) m ≡ call (scanLines kind o ws x b m n) (scanDone kind ws x b m n)
+  pub scan-object : kind ≡ true → x < o → scanOutcome (Refused BadQuestion) m ≡ call (scanClauses kind o ws x b m n) (scanDone kind ws x b m n)
   scan-object k h = bad (rw (k, lt-ltb x o h) (or-true (leb n x)))
 
   -- The start is good.
-  pub Good : Type 0
-  Good = badStart kind o n x ≡ false
+  pub GoodStart : Type 0
+  GoodStart = badStart kind o n x ≡ false
 
-  pub good-forward : x < n → kind ≡ false → Good
-  unfolding Good
+  pub good-forward : x < n → kind ≡ false → GoodStart
+  unfolding GoodStart
   good-forward h k = rw (k, lt-leb n x h)
 
-  pub good-kind : x < n → kind ≡ true → o ≤ x → Good
-  unfolding Good
+  pub good-kind : x < n → kind ≡ true → o ≤ x → GoodStart
+  unfolding GoodStart
   good-kind h k l = rw (k, lt-leb n x h, le-ltb x o l)
 
-  module _ (g : Good) where
-    -- Row 5.
-    pub scan-short : length m < n → outcome (Refused ShortBuffer) m ≡ call (scanLines kind o ws x b m n) (scanDone kind ws x b m n)
-    unfolding Good
+  module _ (g : GoodStart) where
+    -- Number 5.
+    pub scan-short : length m < n → scanOutcome (Refused ShortBuffer) m ≡ call (scanClauses kind o ws x b m n) (scanDone kind ws x b m n)
+    unfolding GoodStart
     scan-short h = rw (g, lt-ltb (length m) n h)
 
-    -- Rows 0 and 6: the code scanned from the start with the bytes past the nodes behind it, and was left with the marks m₂.
+    -- Numbers 0 and 6: the code scanned from the start with the bytes past the nodes behind it, and was left with the marks m₂.
     pub scan-ran : {d : Bool} {count : ℕ} {m₁ m₂ : List ℕ} → x < n → Inside n ws → n ≤ length m → m₁ ≡ start kind n x ++ drop n m
         → rounds (commands kind) ws 0 b m₁ ≡ record { done = d; count = count; marks = m₂ }
-        → outcome (cond d (Done count) (Spent count)) m₂ ≡ call (scanLines kind o ws x b m n) (scanDone kind ws x b m n)
-    unfolding Good
+        → scanOutcome (cond d (Done count) (Spent count)) m₂ ≡ call (scanClauses kind o ws x b m n) (scanDone kind ws x b m n)
+    unfolding GoodStart
     scan-ran {m₁ = m₁} l e h s r =
         let f = rounds-frame (drop n m) (commands kind) (puts 8 (omega arith) kind) ws b 0 (start kind n x) (rw (start-long n x l kind) e) in
-        rw (g, le-ltb (length m) n h) (ap over (sym r ∙ ap (rounds (commands kind) ws 0 b) s ∙ f) ∙ scan-over (commands kind) ws (start kind n x) b (drop n m))
+        rw (g, le-ltb (length m) n h) (ap scanEnd (sym r ∙ ap (rounds (commands kind) ws 0 b) s ∙ f) ∙ scan-end (commands kind) ws (start kind n x) b (drop n m))

@@ -2,8 +2,8 @@
 ghost use mathlib.Core.Path.{_≡_};
 ghost use Prim.Native.Nat.{_+_, _≤_};
 ghost use Rattle.theory.proofs.Inside.{Inside};
-ghost use Rattle.scan.specs.Table.{outcome, scanLines, scanTable, scanDone, forwardScanned, kindScanned};
-ghost use Rattle.net.specs.Lines.{call};
+ghost use Rattle.scan.specs.Table.{scanOutcome, scanClauses, scanTable, scanDone, forwardScanned, kindScanned};
+ghost use Rattle.net.specs.Clauses.{call};
 use net::Checked;
 use net::Refusal;
 use net::check_net;
@@ -17,7 +17,7 @@ pub enum Scanned {
     Refused(Refusal),
 }
 
-// Rows 4, 5, 6 and 0, on a net of `n` nodes that was checked.
+// Numbers 4, 5, 6 and 0, on a net of `n` nodes that was checked.
 pub fn scan_net(
     kind: bool,
     o: u32,
@@ -29,7 +29,7 @@ pub fn scan_net(
 ) -> Scanned
     requires inside { ⌜ Inside n (now words) ⌝ }
     requires few { ⌜ n ≤ 1024 ⌝ }
-    ensures { λ r. ⌜ outcome r (now (marks .exit)) ≡ call (scanLines kind o (now (words .entry)) x budget (now (marks .entry)) n) (scanDone kind (now (words .entry)) x budget (now (marks .entry)) n) ⌝ }
+    ensures { λ r. ⌜ scanOutcome r (now (marks .exit)) ≡ call (scanClauses kind o (now (words .entry)) x budget (now (marks .entry)) n) (scanDone kind (now (words .entry)) x budget (now (marks .entry)) n) ⌝ }
 {
     let at = x as usize;
     if n <= at {
@@ -52,7 +52,7 @@ pub fn scan_net(
     }
 }
 
-// Rows 1, 2 and 3 as the check of the net gives them, and then the scan.
+// Numbers 1, 2 and 3 as the check of the net gives them, and then the scan.
 fn scan_from(
     kind: bool,
     o: u32,
@@ -62,7 +62,7 @@ fn scan_from(
     budget: u32,
     marks: &mut [u8],
 ) -> Scanned
-    ensures { λ r. ⌜ outcome r (now (marks .exit)) ≡ call (scanTable kind o k (now (words .entry)) x budget (now (marks .entry))) (scanDone kind (now (words .entry)) x budget (now (marks .entry)) (o + k)) ⌝ }
+    ensures { λ r. ⌜ scanOutcome r (now (marks .exit)) ≡ call (scanTable kind o k (now (words .entry)) x budget (now (marks .entry))) (scanDone kind (now (words .entry)) x budget (now (marks .entry)) (o + k)) ⌝ }
 {
     let net = check_net(o, k, words);
     match net {
@@ -80,7 +80,7 @@ pub fn forward_scan(
     budget: u32,
     marks: &mut [u8],
 ) -> Scanned
-    ensures { λ r. ⌜ outcome r (now (marks .exit)) ≡ forwardScanned o k (now (words .entry)) start budget (now (marks .entry)) ⌝ }
+    ensures { λ r. ⌜ scanOutcome r (now (marks .exit)) ≡ forwardScanned o k (now (words .entry)) start budget (now (marks .entry)) ⌝ }
 {
     scan_from(false, o, k, words, start, budget, marks)
 }
@@ -94,7 +94,7 @@ pub fn kind_scan(
     budget: u32,
     marks: &mut [u8],
 ) -> Scanned
-    ensures { λ r. ⌜ outcome r (now (marks .exit)) ≡ kindScanned o k (now (words .entry)) start budget (now (marks .entry)) ⌝ }
+    ensures { λ r. ⌜ scanOutcome r (now (marks .exit)) ≡ kindScanned o k (now (words .entry)) start budget (now (marks .entry)) ⌝ }
 {
     scan_from(true, o, k, words, start, budget, marks)
 }

@@ -4,7 +4,7 @@ ghost use Prim.Native.Nat.{_≤_};
 ghost use lib.ListN.{length};
 ghost use Rattle.theory.specs.Marks.{links, command};
 ghost use Rattle.theory.proofs.Inside.{Inside};
-ghost use Rattle.theory.proofs.Growth.{Set};
+ghost use Rattle.theory.proofs.machine.Growth.{Set};
 ghost use Rattle.scan_link.specs.Asks.{Small};
 ghost use Rattle.scan_command.specs.Copies.{Agree};
 use scan_link::follow;

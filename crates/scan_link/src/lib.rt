@@ -4,7 +4,7 @@ ghost use Prim.Native.Nat.{_^_, _<_, _≤_};
 ghost use lib.ListN.{length};
 ghost use Rattle.theory.specs.Marks.{has, near, far, link};
 ghost use Rattle.theory.proofs.Inside.{Ends};
-ghost use Rattle.theory.proofs.Growth.{Set};
+ghost use Rattle.theory.proofs.machine.Growth.{Set};
 ghost use Rattle.scan_link.specs.Asks.{Small};
 use net::head_of;
 use net::tail_of;

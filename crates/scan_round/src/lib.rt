@@ -4,7 +4,7 @@ ghost use Prim.Native.Nat.{_≤_};
 ghost use lib.ListN.{length};
 ghost use Rattle.theory.specs.Marks.{round};
 ghost use Rattle.theory.proofs.Inside.{Inside};
-ghost use Rattle.theory.proofs.Growth.{Set};
+ghost use Rattle.theory.proofs.machine.Growth.{Set};
 ghost use Rattle.scan_start.specs.Starts.{Low};
 ghost use Rattle.scan_round.specs.Turns.{commands};
 use scan_command::run_command;

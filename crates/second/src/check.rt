@@ -1,9 +1,9 @@
-// Rows 1 to 4 of the number table: the net, its words, and the nodes that a call names.
+// Numbers 1 to 4 of the number table: the net, its words, and the nodes that a call names.
 ghost use Prim.Native.Nat.{_<_};
-use crate::outcome::Outcome;
-use crate::outcome::given;
-use crate::outcome::refused;
 use crate::places::narrow;
+use crate::reply::Reply;
+use crate::reply::given;
+use crate::reply::refused;
 
 // N = o + k.
 pub fn node_count(o: u32, k: u32) -> usize
@@ -45,8 +45,8 @@ fn first_illegal(o: u32, k: u32, words: &[u32]) -> usize {
     i
 }
 
-// Rows 1 to 3; number 0 where none of them applies.
-pub fn net_check(o: u32, k: u32, words: &[u32]) -> Outcome {
+// Numbers 1 to 3; number 0 where none of them applies.
+pub fn net_check(o: u32, k: u32, words: &[u32]) -> Reply {
     if node_count(o, k) > 1024 {
         return refused(1);
     }
@@ -60,8 +60,8 @@ pub fn net_check(o: u32, k: u32, words: &[u32]) -> Outcome {
     refused(0)
 }
 
-// Rows 1 to 3, and row 4 for a call from the node x.
-pub fn node_check(o: u32, k: u32, words: &[u32], x: u32) -> Outcome {
+// Numbers 1 to 3, and number 4 for a call from the node x.
+pub fn node_check(o: u32, k: u32, words: &[u32], x: u32) -> Reply {
     let net = net_check(o, k, words);
     if net.number == 0 && !is_node(o, k, x) {
         return refused(4);
@@ -69,8 +69,8 @@ pub fn node_check(o: u32, k: u32, words: &[u32], x: u32) -> Outcome {
     net
 }
 
-// Rows 1 to 3, and row 4 for a call from the kind y.
-pub fn kind_check(o: u32, k: u32, words: &[u32], y: u32) -> Outcome {
+// Numbers 1 to 3, and number 4 for a call from the kind y.
+pub fn kind_check(o: u32, k: u32, words: &[u32], y: u32) -> Reply {
     let net = net_check(o, k, words);
     if net.number == 0 && !is_kind(o, k, y) {
         return refused(4);
@@ -78,8 +78,8 @@ pub fn kind_check(o: u32, k: u32, words: &[u32], y: u32) -> Outcome {
     net
 }
 
-// Rows 1 to 4 for a call about the statement (x, y, sign).
-pub fn statement_check(o: u32, k: u32, words: &[u32], x: u32, y: u32, sign: u32) -> Outcome {
+// Numbers 1 to 4 for a call about the statement (x, y, sign).
+pub fn statement_check(o: u32, k: u32, words: &[u32], x: u32, y: u32, sign: u32) -> Reply {
     let start = node_check(o, k, words, x);
     if start.number != 0 {
         return start;

@@ -1,9 +1,9 @@
 // A second engine for the operations of 01, written from the request alone: it closes a table of all pairs under the support
 // rules, where the proved engine spreads markers. It promises to be safe and to end; its answers are there to be compared.
 
-mod outcome; // outcome.rt: number and values of an answer
+mod reply; // reply.rt: number and values of an answer
 mod places; // places.rt: reading and writing at any place of a lent slice
-mod check; // check.rt: rows 1 to 4 of the number table
+mod check; // check.rt: numbers 1 to 4 of the number table
 mod closure; // closure.rt: the table of supported statements
 mod rounds; // rounds.rt: the rounds of both scans
 mod search; // search.rt: the shortest reason
@@ -27,15 +27,15 @@ use file::number_at;
 use file::read_words;
 use file::word_count;
 use file::wrong_place;
-pub use outcome::Outcome;
-use outcome::given;
-use outcome::refused;
 use path::shows;
 use places::clear;
 use places::entry_at;
 use places::narrow;
 use places::node;
 use places::wide;
+pub use reply::Reply;
+use reply::given;
+use reply::refused;
 use rounds::forward_marks;
 use rounds::kind_marks;
 use search::fill_distances;
@@ -52,7 +52,7 @@ pub fn forward_scan(
     start: u32,
     budget: u32,
     marks: &mut [u8],
-) -> Outcome {
+) -> Reply {
     let checked = node_check(o, k, words, start);
     if checked.number != 0 {
         return checked;
@@ -72,7 +72,7 @@ pub fn kind_scan(
     start: u32,
     budget: u32,
     marks: &mut [u8],
-) -> Outcome {
+) -> Reply {
     let checked = kind_check(o, k, words, start);
     if checked.number != 0 {
         return checked;
@@ -85,7 +85,7 @@ pub fn kind_scan(
 }
 
 // The question (x, y): the word is read off the table, the marks and the count are the forward scan's.
-pub fn question(o: u32, k: u32, words: &[u32], x: u32, y: u32, marks: &mut [u8]) -> Outcome {
+pub fn question(o: u32, k: u32, words: &[u32], x: u32, y: u32, marks: &mut [u8]) -> Reply {
     let checked = statement_check(o, k, words, x, y, 0);
     if checked.number != 0 {
         return checked;
@@ -101,7 +101,7 @@ pub fn question(o: u32, k: u32, words: &[u32], x: u32, y: u32, marks: &mut [u8])
 }
 
 // All supported words, ascending.
-pub fn completion(o: u32, k: u32, words: &[u32], marks: &mut [u8], list: &mut [u32]) -> Outcome {
+pub fn completion(o: u32, k: u32, words: &[u32], marks: &mut [u8], list: &mut [u32]) -> Reply {
     let checked = net_check(o, k, words);
     if checked.number != 0 {
         return checked;
@@ -122,7 +122,7 @@ pub fn completion(o: u32, k: u32, words: &[u32], marks: &mut [u8], list: &mut [u
 }
 
 // The smallest object that both is and is not some kind, and the smallest such kind.
-pub fn clash(o: u32, k: u32, words: &[u32], marks: &mut [u8]) -> Outcome {
+pub fn clash(o: u32, k: u32, words: &[u32], marks: &mut [u8]) -> Reply {
     let checked = net_check(o, k, words);
     if checked.number != 0 {
         return checked;
@@ -151,7 +151,7 @@ pub fn reason(
     sign: u32,
     scratch: &mut [u16],
     list: &mut [u16],
-) -> Outcome {
+) -> Reply {
     let checked = statement_check(o, k, words, x, y, sign);
     if checked.number != 0 {
         return checked;
@@ -182,7 +182,7 @@ pub fn reason_check(
     y: u32,
     sign: u32,
     list: &[u16],
-) -> Outcome {
+) -> Reply {
     let checked = statement_check(o, k, words, x, y, sign);
     if checked.number != 0 {
         return checked;
@@ -213,8 +213,8 @@ pub fn ask_text(file: &[u8], text: &mut [u8]) -> usize {
     question_lines(file, o, k, words, &support, text)
 }
 
-// Rows 1 to 3 alone; the number of nodes where none of them applies.
-pub fn check_net(o: u32, k: u32, words: &[u32]) -> Outcome {
+// Numbers 1 to 3 alone; the number of nodes where none of them applies.
+pub fn check_net(o: u32, k: u32, words: &[u32]) -> Reply {
     let checked = net_check(o, k, words);
     if checked.number != 0 {
         return checked;
@@ -223,7 +223,7 @@ pub fn check_net(o: u32, k: u32, words: &[u32]) -> Outcome {
 }
 
 // The place of a malformed file's 9, or where the questions of a well-formed one start.
-pub fn read_file(file: &[u8]) -> Outcome {
+pub fn read_file(file: &[u8]) -> Reply {
     let place = wrong_place(file);
     if place < 4 {
         return given(9, place, 0);

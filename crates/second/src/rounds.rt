@@ -1,12 +1,12 @@
 // The rounds of the marker machine, each marker in an array of its own: 1 where the node has the mark, 0 elsewhere.
 use crate::check::head_of;
 use crate::check::tail_of;
-use crate::outcome::Outcome;
-use crate::outcome::given;
 use crate::places::add_bits;
 use crate::places::byte_at;
 use crate::places::node;
 use crate::places::put_byte;
+use crate::reply::Reply;
+use crate::reply::given;
 
 // One command: each link of that sign with a mark of `old` at one end puts a mark at its other end; `down` goes from tail to head.
 fn command(
@@ -65,7 +65,7 @@ fn kind_round(words: &[u32], t: &mut [u8; 1024], f: &mut [u8; 1024], u: &mut [u8
 }
 
 // Rounds of the forward scan until one sets nothing, at most `budget` of them.
-fn forward_rounds(words: &[u32], budget: u32, t: &mut [u8; 1024], f: &mut [u8; 1024]) -> Outcome {
+fn forward_rounds(words: &[u32], budget: u32, t: &mut [u8; 1024], f: &mut [u8; 1024]) -> Reply {
     let mut count: u32 = 0;
     while count < budget {
         count += 1;
@@ -83,7 +83,7 @@ fn kind_rounds(
     t: &mut [u8; 1024],
     f: &mut [u8; 1024],
     u: &mut [u8; 1024],
-) -> Outcome {
+) -> Reply {
     let mut count: u32 = 0;
     while count < budget {
         count += 1;
@@ -127,28 +127,28 @@ fn only_at(v: usize) -> [u8; 1024] {
 }
 
 // The rounds of the forward scan of a legal net from the node x, its marks left aside.
-pub fn forward_count(words: &[u32], x: usize, budget: u32) -> Outcome {
+pub fn forward_count(words: &[u32], x: usize, budget: u32) -> Reply {
     let mut t = only_at(x);
     let mut f = nowhere();
     forward_rounds(words, budget, &mut t, &mut f)
 }
 
 // The forward scan of a legal net from the node x.
-pub fn forward_marks(n: usize, words: &[u32], x: usize, budget: u32, marks: &mut [u8]) -> Outcome {
+pub fn forward_marks(n: usize, words: &[u32], x: usize, budget: u32, marks: &mut [u8]) -> Reply {
     let mut t = only_at(x);
     let mut f = nowhere();
     let u = nowhere();
-    let outcome = forward_rounds(words, budget, &mut t, &mut f);
+    let reply = forward_rounds(words, budget, &mut t, &mut f);
     pack(n, &t, &f, &u, marks);
-    outcome
+    reply
 }
 
 // The kind scan of a legal net from the kind y.
-pub fn kind_marks(n: usize, words: &[u32], y: usize, budget: u32, marks: &mut [u8]) -> Outcome {
+pub fn kind_marks(n: usize, words: &[u32], y: usize, budget: u32, marks: &mut [u8]) -> Reply {
     let mut t = only_at(y);
     let mut f = nowhere();
     let mut u = only_at(y);
-    let outcome = kind_rounds(words, budget, &mut t, &mut f, &mut u);
+    let reply = kind_rounds(words, budget, &mut t, &mut f, &mut u);
     pack(n, &t, &f, &u, marks);
-    outcome
+    reply
 }

@@ -6,9 +6,9 @@ use crate::closure::answer;
 use crate::file::number_at;
 use crate::file::question_count;
 use crate::file::word_count;
-use crate::outcome::Outcome;
 use crate::places::narrow;
 use crate::places::node;
+use crate::reply::Reply;
 use crate::rounds::forward_count;
 
 // Appends a byte at a place; the place after it.
@@ -68,7 +68,7 @@ pub fn file_line(text: &mut [u8], place: u32) -> usize {
 }
 
 // The line of a refused net.
-pub fn net_line(text: &mut [u8], net: Outcome) -> usize {
+pub fn net_line(text: &mut [u8], net: Reply) -> usize {
     let end = put_bytes(text, 0, b"net ");
     let next = put_field(text, end, net.number, 32);
     put_field(text, next, net.first, 10)

@@ -2,16 +2,16 @@
 use Prim.Native.Nat.{ℕ}
 use mathlib.Core.Path.{_≡_, sym, _∙_}
 use mathlib.Core.List.{List}
-use Rattle.net.specs.Table.{Row, checkNet, checkedRow}
-use Rattle.scan.specs.Table.{forwardScanned, kindScanned, scanRow}
-use Rattle.question.specs.Table.{questioned, askedRow}
-use Rattle.clash.specs.Table.{clashedBy, clashedRow}
-use Rattle.completion.specs.Table.{completedBy, completedRow}
-use Rattle.reason.specs.Table.{reasoned, reasonedRow}
-use Rattle.reason_check.specs.Table.{verdict, verdictRow}
+use Rattle.net.specs.Table.{Reply, checkNet, checkedReply}
+use Rattle.scan.specs.Table.{forwardScanned, kindScanned, scanReply}
+use Rattle.question.specs.Table.{questioned, askedReply}
+use Rattle.clash.specs.Table.{clashedBy, clashedReply}
+use Rattle.completion.specs.Table.{completedBy, completedReply}
+use Rattle.reason.specs.Table.{reasoned, reasonedReply}
+use Rattle.reason_check.specs.Table.{verdict, verdictReply}
 
--- The structs r and q that a statement lets a call give, where s is its row.
-module _ {s : Row} (r q : Row) where
+-- The structs r and q that a statement lets a call give, where s is its reply.
+module _ {s : Reply} (r q : Reply) where
   -- A statement about the struct alone.
   gives-one : r ≡ s → q ≡ s → r ≡ q
   gives-one e f = e ∙ sym f
@@ -23,49 +23,49 @@ module _ {s : Row} (r q : Row) where
   leaves-two : {t u : List ℕ} (m l c d : List ℕ) → (r ≡ s) × (m ≡ t) × (c ≡ u) → (q ≡ s) × (l ≡ t) × (d ≡ u) → (r ≡ q) × (m ≡ l) × (c ≡ d)
   leaves-two m l c d e f = (gives-one (e .0) (f .0), e .1 ∙ sym (f .1), e .2 ∙ sym (f .2))
 
-module _ (o k : ℕ) (ws : List ℕ) (r q : Row) where
+module _ (o k : ℕ) (ws : List ℕ) (r q : Reply) where
   -- `strumelka_check_net`.
-  pub check-net-unique : r ≡ checkedRow (checkNet o k ws) → q ≡ checkedRow (checkNet o k ws) → r ≡ q
+  pub check-net-unique : r ≡ checkedReply (checkNet o k ws) → q ≡ checkedReply (checkNet o k ws) → r ≡ q
   check-net-unique = gives-one r q
 
   -- `strumelka_reason_check`.
-  pub reason-check-unique : (x y sign : ℕ) (list : List ℕ) → r ≡ verdictRow (verdict o k ws x y sign list) → q ≡ verdictRow (verdict o k ws x y sign list) → r ≡ q
+  pub reason-check-unique : (x y sign : ℕ) (list : List ℕ) → r ≡ verdictReply (verdict o k ws x y sign list) → q ≡ verdictReply (verdict o k ws x y sign list) → r ≡ q
   reason-check-unique x y sign list = gives-one r q
 
   module _ (marks m l : List ℕ) where
     -- `strumelka_forward_scan`.
     pub forward-scan-unique : (x budget : ℕ)
-        → (r ≡ scanRow (forwardScanned o k ws x budget marks .answer)) × (m ≡ forwardScanned o k ws x budget marks .marks)
-        → (q ≡ scanRow (forwardScanned o k ws x budget marks .answer)) × (l ≡ forwardScanned o k ws x budget marks .marks) → (r ≡ q) × (m ≡ l)
+        → (r ≡ scanReply (forwardScanned o k ws x budget marks .answer)) × (m ≡ forwardScanned o k ws x budget marks .marks)
+        → (q ≡ scanReply (forwardScanned o k ws x budget marks .answer)) × (l ≡ forwardScanned o k ws x budget marks .marks) → (r ≡ q) × (m ≡ l)
     forward-scan-unique x budget = leaves-one r q m l
 
     -- `strumelka_kind_scan`.
     pub kind-scan-unique : (y budget : ℕ)
-        → (r ≡ scanRow (kindScanned o k ws y budget marks .answer)) × (m ≡ kindScanned o k ws y budget marks .marks)
-        → (q ≡ scanRow (kindScanned o k ws y budget marks .answer)) × (l ≡ kindScanned o k ws y budget marks .marks) → (r ≡ q) × (m ≡ l)
+        → (r ≡ scanReply (kindScanned o k ws y budget marks .answer)) × (m ≡ kindScanned o k ws y budget marks .marks)
+        → (q ≡ scanReply (kindScanned o k ws y budget marks .answer)) × (l ≡ kindScanned o k ws y budget marks .marks) → (r ≡ q) × (m ≡ l)
     kind-scan-unique y budget = leaves-one r q m l
 
     -- `strumelka_question`.
     pub question-unique : (x y : ℕ)
-        → (r ≡ askedRow (questioned o k ws x y marks .answer)) × (m ≡ questioned o k ws x y marks .marks)
-        → (q ≡ askedRow (questioned o k ws x y marks .answer)) × (l ≡ questioned o k ws x y marks .marks) → (r ≡ q) × (m ≡ l)
+        → (r ≡ askedReply (questioned o k ws x y marks .answer)) × (m ≡ questioned o k ws x y marks .marks)
+        → (q ≡ askedReply (questioned o k ws x y marks .answer)) × (l ≡ questioned o k ws x y marks .marks) → (r ≡ q) × (m ≡ l)
     question-unique x y = leaves-one r q m l
 
     -- `strumelka_clash`.
-    pub clash-unique : (r ≡ clashedRow (clashedBy o k ws marks .answer)) × (m ≡ clashedBy o k ws marks .marks)
-        → (q ≡ clashedRow (clashedBy o k ws marks .answer)) × (l ≡ clashedBy o k ws marks .marks) → (r ≡ q) × (m ≡ l)
+    pub clash-unique : (r ≡ clashedReply (clashedBy o k ws marks .answer)) × (m ≡ clashedBy o k ws marks .marks)
+        → (q ≡ clashedReply (clashedBy o k ws marks .answer)) × (l ≡ clashedBy o k ws marks .marks) → (r ≡ q) × (m ≡ l)
     clash-unique = leaves-one r q m l
 
     -- `strumelka_completion`: c and d the lists left.
     pub completion-unique : (list c d : List ℕ)
-        → (r ≡ completedRow (completedBy o k ws marks list .answer)) × (m ≡ completedBy o k ws marks list .marks) × (c ≡ completedBy o k ws marks list .list)
-        → (q ≡ completedRow (completedBy o k ws marks list .answer)) × (l ≡ completedBy o k ws marks list .marks) × (d ≡ completedBy o k ws marks list .list)
+        → (r ≡ completedReply (completedBy o k ws marks list .answer)) × (m ≡ completedBy o k ws marks list .marks) × (c ≡ completedBy o k ws marks list .list)
+        → (q ≡ completedReply (completedBy o k ws marks list .answer)) × (l ≡ completedBy o k ws marks list .marks) × (d ≡ completedBy o k ws marks list .list)
         → (r ≡ q) × (m ≡ l) × (c ≡ d)
     completion-unique list c d = leaves-two r q m l c d
 
   -- `strumelka_reason`: m and l the scratches, c and d the lists left.
   pub reason-unique : (x y sign : ℕ) (scratch list m l c d : List ℕ)
-      → (r ≡ reasonedRow (reasoned o k ws x y sign scratch list .answer)) × (m ≡ reasoned o k ws x y sign scratch list .scratch) × (c ≡ reasoned o k ws x y sign scratch list .list)
-      → (q ≡ reasonedRow (reasoned o k ws x y sign scratch list .answer)) × (l ≡ reasoned o k ws x y sign scratch list .scratch) × (d ≡ reasoned o k ws x y sign scratch list .list)
+      → (r ≡ reasonedReply (reasoned o k ws x y sign scratch list .answer)) × (m ≡ reasoned o k ws x y sign scratch list .scratch) × (c ≡ reasoned o k ws x y sign scratch list .list)
+      → (q ≡ reasonedReply (reasoned o k ws x y sign scratch list .answer)) × (l ≡ reasoned o k ws x y sign scratch list .scratch) × (d ≡ reasoned o k ws x y sign scratch list .list)
       → (r ≡ q) × (m ≡ l) × (c ≡ d)
   reason-unique x y sign scratch list m l c d = leaves-two r q m l c d

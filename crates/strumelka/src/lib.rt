@@ -1,12 +1,12 @@
-// What a C or a Rust program links: each operation, its answer given as a row of the number table.
+// What a C or a Rust program links: each operation, its answer given as a reply.
 ghost use mathlib.Core.Path.{_≡_};
-ghost use Rattle.net.specs.Table.{checkNet, checkedRow};
-ghost use Rattle.scan.specs.Table.{forwardScanned, kindScanned, scanRow};
-ghost use Rattle.question.specs.Table.{questioned, askedRow};
-ghost use Rattle.clash.specs.Table.{clashedBy, clashedRow};
-ghost use Rattle.completion.specs.Table.{completedBy, completedRow};
-ghost use Rattle.reason.specs.Table.{reasoned, reasonedRow};
-ghost use Rattle.reason_check.specs.Table.{verdict, verdictRow};
+ghost use Rattle.net.specs.Table.{checkNet, checkedReply};
+ghost use Rattle.scan.specs.Table.{forwardScanned, kindScanned, scanReply};
+ghost use Rattle.question.specs.Table.{questioned, askedReply};
+ghost use Rattle.clash.specs.Table.{clashedBy, clashedReply};
+ghost use Rattle.completion.specs.Table.{completedBy, completedReply};
+ghost use Rattle.reason.specs.Table.{reasoned, reasonedReply};
+ghost use Rattle.reason_check.specs.Table.{verdict, verdictReply};
 use clash::find_clash;
 use completion::complete_net;
 use library_answer::asked_given;
@@ -15,8 +15,8 @@ use library_answer::completed_given;
 use library_answer::reasoned_given;
 use library_answer::scanned_given;
 use library_answer::verdict_given;
-use library_row::checked_given;
-use net::Row;
+use library_reply::checked_given;
+use net::Reply;
 use net::check_net;
 use question::ask_question;
 use reason::find_reason;
@@ -26,8 +26,8 @@ use scan::kind_scan;
 
 // The check of a net.
 #[no_mangle]
-pub extern "C" fn strumelka_check_net(o: u32, k: u32, words: &[u32]) -> Row
-    ensures { λ r. ⌜ r ≡ checkedRow (checkNet o k (now (words .entry))) ⌝ }
+pub extern "C" fn strumelka_check_net(o: u32, k: u32, words: &[u32]) -> Reply
+    ensures { λ r. ⌜ r ≡ checkedReply (checkNet o k (now (words .entry))) ⌝ }
 {
     checked_given(check_net(o, k, words))
 }
@@ -41,8 +41,8 @@ pub extern "C" fn strumelka_forward_scan(
     start: u32,
     budget: u32,
     marks: &mut [u8],
-) -> Row
-    ensures { λ r. ⌜ (r ≡ scanRow (forwardScanned o k (now (words .entry)) start budget (now (marks .entry)) .answer))
+) -> Reply
+    ensures { λ r. ⌜ (r ≡ scanReply (forwardScanned o k (now (words .entry)) start budget (now (marks .entry)) .answer))
         × (now (marks .exit) ≡ forwardScanned o k (now (words .entry)) start budget (now (marks .entry)) .marks) ⌝ }
 {
     scanned_given(forward_scan(o, k, words, start, budget, marks))
@@ -57,8 +57,8 @@ pub extern "C" fn strumelka_kind_scan(
     start: u32,
     budget: u32,
     marks: &mut [u8],
-) -> Row
-    ensures { λ r. ⌜ (r ≡ scanRow (kindScanned o k (now (words .entry)) start budget (now (marks .entry)) .answer))
+) -> Reply
+    ensures { λ r. ⌜ (r ≡ scanReply (kindScanned o k (now (words .entry)) start budget (now (marks .entry)) .answer))
         × (now (marks .exit) ≡ kindScanned o k (now (words .entry)) start budget (now (marks .entry)) .marks) ⌝ }
 {
     scanned_given(kind_scan(o, k, words, start, budget, marks))
@@ -73,8 +73,8 @@ pub extern "C" fn strumelka_question(
     x: u32,
     y: u32,
     marks: &mut [u8],
-) -> Row
-    ensures { λ r. ⌜ (r ≡ askedRow (questioned o k (now (words .entry)) x y (now (marks .entry)) .answer))
+) -> Reply
+    ensures { λ r. ⌜ (r ≡ askedReply (questioned o k (now (words .entry)) x y (now (marks .entry)) .answer))
         × (now (marks .exit) ≡ questioned o k (now (words .entry)) x y (now (marks .entry)) .marks) ⌝ }
 {
     asked_given(ask_question(o, k, words, x, y, marks))
@@ -88,8 +88,8 @@ pub extern "C" fn strumelka_completion(
     words: &[u32],
     marks: &mut [u8],
     list: &mut [u32],
-) -> Row
-    ensures { λ r. ⌜ (r ≡ completedRow (completedBy o k (now (words .entry)) (now (marks .entry)) (now (list .entry)) .answer))
+) -> Reply
+    ensures { λ r. ⌜ (r ≡ completedReply (completedBy o k (now (words .entry)) (now (marks .entry)) (now (list .entry)) .answer))
         × (now (marks .exit) ≡ completedBy o k (now (words .entry)) (now (marks .entry)) (now (list .entry)) .marks)
         × (now (list .exit) ≡ completedBy o k (now (words .entry)) (now (marks .entry)) (now (list .entry)) .list) ⌝ }
 {
@@ -98,8 +98,8 @@ pub extern "C" fn strumelka_completion(
 
 // The clash test.
 #[no_mangle]
-pub extern "C" fn strumelka_clash(o: u32, k: u32, words: &[u32], marks: &mut [u8]) -> Row
-    ensures { λ r. ⌜ (r ≡ clashedRow (clashedBy o k (now (words .entry)) (now (marks .entry)) .answer))
+pub extern "C" fn strumelka_clash(o: u32, k: u32, words: &[u32], marks: &mut [u8]) -> Reply
+    ensures { λ r. ⌜ (r ≡ clashedReply (clashedBy o k (now (words .entry)) (now (marks .entry)) .answer))
         × (now (marks .exit) ≡ clashedBy o k (now (words .entry)) (now (marks .entry)) .marks) ⌝ }
 {
     clashed_given(find_clash(o, k, words, marks))
@@ -116,8 +116,8 @@ pub extern "C" fn strumelka_reason(
     sign: u32,
     scratch: &mut [u16],
     list: &mut [u16],
-) -> Row
-    ensures { λ r. ⌜ (r ≡ reasonedRow (reasoned o k (now (words .entry)) x y sign (now (scratch .entry)) (now (list .entry)) .answer))
+) -> Reply
+    ensures { λ r. ⌜ (r ≡ reasonedReply (reasoned o k (now (words .entry)) x y sign (now (scratch .entry)) (now (list .entry)) .answer))
         × (now (scratch .exit) ≡ reasoned o k (now (words .entry)) x y sign (now (scratch .entry)) (now (list .entry)) .scratch)
         × (now (list .exit) ≡ reasoned o k (now (words .entry)) x y sign (now (scratch .entry)) (now (list .entry)) .list) ⌝ }
 {
@@ -134,8 +134,8 @@ pub extern "C" fn strumelka_reason_check(
     y: u32,
     sign: u32,
     list: &[u16],
-) -> Row
-    ensures { λ r. ⌜ r ≡ verdictRow (verdict o k (now (words .entry)) x y sign (now (list .entry))) ⌝ }
+) -> Reply
+    ensures { λ r. ⌜ r ≡ verdictReply (verdict o k (now (words .entry)) x y sign (now (list .entry))) ⌝ }
 {
     verdict_given(check_reason(o, k, words, x, y, sign, list))
 }

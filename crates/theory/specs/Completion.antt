@@ -16,7 +16,7 @@ Ascending lo [] = Unit {0}
 Ascending lo (w ∷ l) = (lo ≤ w) × Ascending (suc w) l
 
 -- What a completed list is.
-pub record Completed (o k : ℕ) (ws out : List ℕ) : Type 0 where
+pub record Lists (o k : ℕ) (ws out : List ℕ) : Type 0 where
   pub ascending : Ascending 0 out
   pub exact : (w : ℕ) → List·Memᴰ w out ↔ Supported o k (Links ws) (tailOf w) (headOf w) (signOf w)
 

@@ -3,7 +3,7 @@ use Prim.Native.Nat.{ℕ, _+_, _≤_, _<_}
 use mathlib.Core.Path.{_≡_}
 use mathlib.Core.List.{List, List·Memᴰ}
 use lib.ListN.{length}
-use Rattle.theory.specs.Words.{Sign, number, tailOf, headOf, parity, nodeLimit, wordLimit}
+use Rattle.theory.specs.Words.{Sign, signNumber, tailOf, headOf, parity, nodeLimit, wordLimit}
 
 -- p is a kind: objects stand below o, kinds from o to N − 1.
 pub record Kind (o k p : ℕ) : Type 0 where
@@ -20,7 +20,7 @@ pub record Links (ws : List ℕ) (x y : ℕ) (s : Sign) : Type 0 where
   pub listed : List·Memᴰ it ws
   pub tail : tailOf it ≡ x
   pub head : headOf it ≡ y
-  pub sign : parity it ≡ number s
+  pub sign : parity it ≡ signNumber s
 
 -- A legal word: its tail is a node and its head a kind.
 pub record LegalWord (o k w : ℕ) : Type 0 where
@@ -31,7 +31,7 @@ pub record LegalWord (o k w : ℕ) : Type 0 where
 abbrev pub LegalWords : ℕ → ℕ → List ℕ → Type 0
 LegalWords o k ws = (w : ℕ) → List·Memᴰ w ws → LegalWord o k w
 
--- What no operation refuses by row 1, 2 or 3. Nets over one set of nodes are joined by joining their lists.
+-- What no operation refuses by number 1, 2 or 3. Nets over one set of nodes are joined by joining their lists.
 pub record Net (o k : ℕ) (ws : List ℕ) : Type 0 where
   pub few : o + k ≤ nodeLimit
   pub short : length ws ≤ wordLimit

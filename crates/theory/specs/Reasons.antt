@@ -50,7 +50,7 @@ written x xs ys = suc (length xs) ∷ length ys ∷ x ∷ (xs ++ ys)
 -- One link's move between states: along a → link in the first part, over a ↛ link, back along a → link in the second.
 pub data Moves (n : ℕ) (L : Statements) : Sign → ℕ → ℕ → Type 0 where
   up : {s : Sign} {u v : ℕ} → L u v is → Moves n L s u v
-  over : {u v : ℕ} (b : ℕ) → v ≡ n + b → Crossing L u b → Moves n L isnt u v
+  across : {u v : ℕ} (b : ℕ) → v ≡ n + b → Crossing L u b → Moves n L isnt u v
   down : {u v : ℕ} (a b : ℕ) → u ≡ n + a → v ≡ n + b → L b a is → Moves n L isnt u v
 
 -- The moves lead from s through these states to t.

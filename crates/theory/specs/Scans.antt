@@ -52,8 +52,8 @@ pub record Count (cs : List Command) (ws m : List ℕ) (c : ℕ) : Type 0 where
   pub quiet : after cs ws (suc last) m ≡ after cs ws last m
   pub first : (j : ℕ) → j < last → after cs ws (suc j) m ≡ after cs ws j m → ⊥
 
--- What a scan of the marks m with a budget gives: ended within it, or spent before the last round (row 6).
-pub data Scanned (cs : List Command) (ws m : List ℕ) (budget : ℕ) (r : Scan) : Type 0 where
-  ended : r .done ≡ true → Count cs ws m (r .count) → r .count ≤ budget → r .marks ≡ after cs ws (r .count) m → Scanned cs ws m budget r
+-- What a scan of the marks m with a budget gives: ended within it, or spent before the last round (number 6).
+pub data Runs (cs : List Command) (ws m : List ℕ) (budget : ℕ) (r : Scan) : Type 0 where
+  ended : r .done ≡ true → Count cs ws m (r .count) → r .count ≤ budget → r .marks ≡ after cs ws (r .count) m → Runs cs ws m budget r
   spent : r .done ≡ false → ((j : ℕ) → j < budget → after cs ws (suc j) m ≡ after cs ws j m → ⊥) → r .count ≡ budget → r .marks ≡ after cs ws budget m
-      → Scanned cs ws m budget r
+      → Runs cs ws m budget r

@@ -5,7 +5,7 @@ use Rattle.theory.specs.Nets.{Statements, Kind}
 
 -- p, q and r are kinds, a is an object, x is either.
 pub data Supported (o k : ℕ) (L : Statements) : ℕ → ℕ → Sign → Type 0 where
-  link : {x y : ℕ} {s : Sign} → L x y s → Supported o k L x y s
+  linked : {x y : ℕ} {s : Sign} → L x y s → Supported o k L x y s
   -- (3.1) p → p
   r1 : {p : ℕ} → Kind o k p → Supported o k L p p is
   -- (3.2) x → q and q → r give x → r

@@ -6,13 +6,13 @@ pub data Sign : Type 0 where
   is isnt : Sign
 
 -- How a sign is written.
-abbrev pub number : Sign → ℕ
-number is = 0
-number isnt = 1
+abbrev pub signNumber : Sign → ℕ
+signNumber is = 0
+signNumber isnt = 1
 
 -- The word of the statement x → y, or x ↛ y.
 abbrev pub word : ℕ → ℕ → Sign → ℕ
-word x y s = x * 2048 + y * 2 + number s
+word x y s = x * 2048 + y * 2 + signNumber s
 
 -- A word's tail: it is not reduced, so a word too large has a tail that is no node.
 abbrev pub tailOf : ℕ → ℕ
@@ -35,10 +35,10 @@ signAt (suc n) = isnt
 abbrev pub signOf : ℕ → Sign
 signOf w = signAt (parity w)
 
--- The largest number of nodes (row 1).
+-- The largest number of nodes (number 1).
 abbrev pub nodeLimit : ℕ
 nodeLimit = 1024
 
--- The largest number of words, repeats counted (row 2): as many as there are statements over the largest net.
+-- The largest number of words, repeats counted (number 2): as many as there are statements over the largest net.
 abbrev pub wordLimit : ℕ
 wordLimit = 2097152

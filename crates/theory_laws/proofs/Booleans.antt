@@ -5,8 +5,8 @@ use mathlib.Core.Bool.{Bool, true, false, _&&_, _||_}
 use native.Mathlib.Omega.{arith}
 
 -- False is not true.
-pub clash : {A : Type 0} → _≡_ {A = Bool} false true → A
-clash e = let z : _≡_ {A = ℕ} 0 1 = cc in absurd (omega arith)
+pub contradiction : {A : Type 0} → _≡_ {A = Bool} false true → A
+contradiction e = let z : _≡_ {A = ℕ} 0 1 = cc in absurd (omega arith)
 
 pub and-left : (p q : Bool) → (p && q) ≡ true → p ≡ true
 and-left true q h = refl
@@ -42,7 +42,7 @@ or-none-left true q h = h
 or-none-left false q h = refl
 
 pub or-none-right : (p q : Bool) → (p || q) ≡ false → q ≡ false
-or-none-right true q h = clash (rw h refl)
+or-none-right true q h = contradiction (rw h refl)
 or-none-right false q h = h
 
 -- What is not true is false.
@@ -53,6 +53,6 @@ not-so false h = refl
 -- Two tests that imply each other are the same.
 pub same-test : (p q : Bool) → (p ≡ true → q ≡ true) → (q ≡ true → p ≡ true) → p ≡ q
 same-test true true f g = refl
-same-test true false f g = clash (f refl)
-same-test false true f g = clash (g refl)
+same-test true false f g = contradiction (f refl)
+same-test false true f g = contradiction (g refl)
 same-test false false f g = refl

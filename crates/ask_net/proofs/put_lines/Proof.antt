@@ -6,7 +6,7 @@ use borrow.Author.Needs.{needs}
 use lib.ListN.{length, length-replicate}
 use Rattle.text_field.specs.Writing.{Wrote}
 use Rattle.text_field.proofs.Writing.{rest, room}
-use Rattle.ask_net.specs.Replies.{linesOf}
+use Rattle.ask_net.specs.Lines.{linesOf}
 use Rattle.ask_net.proofs.Asking.{asked-blank}
 use Rattle.ask_net.proofs.Lines.{line-written, lines-written}
 use Rattle.ask_net.proofs.put_lines.Statement.{statement}

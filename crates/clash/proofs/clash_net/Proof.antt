@@ -1,4 +1,4 @@
--- Each return is row 5, or the search with the marks cleared after it.
+-- Each return is number 5, or the search with the marks cleared after it.
 use borrow.Author.Needs.{needs}
 use Rattle.clash.specs.Table.{clashSearch}
 use Rattle.clash.proofs.Outcomes.{clash-short, clash-done}

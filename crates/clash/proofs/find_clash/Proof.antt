@@ -3,7 +3,7 @@ use mathlib.Core.Path.{sym, _∙_}
 use borrow.Author.Needs.{needs}
 use Rattle.net.proofs.OnNet.{passed-on, gone-on}
 use Rattle.question.proofs.Outcomes.{checked-net}
-use Rattle.clash.specs.Table.{clash, clashSearch, clashLines, clashDone}
+use Rattle.clash.specs.Table.{clashOutcome, clashSearch, clashClauses, clashDone}
 use Rattle.clash.specs.declared.Clashed.the-variants.{Refused}
 use Rattle.clash.proofs.find_clash.Statement.{statement}
 use Rattle.clash.proofs.find_clash.Tie as tie
@@ -20,7 +20,7 @@ returns c =
     let net = c .before in
     let checked = net .before .before in
     let a = checked .before .before .before .args in
-    passed-on (λ r. clash (Refused r) (a .marks .now)) (a .o) (a .k) (a .words .now) (clashLines (clashSearch (a .o) (a .k) (a .words .now)) (a .marks .now))
+    passed-on (λ r. clashOutcome (Refused r) (a .marks .now)) (a .o) (a .k) (a .words .now) (clashClauses (clashSearch (a .o) (a .k) (a .words .now)) (a .marks .now))
     (clashDone (clashSearch (a .o) (a .k) (a .words .now)) (a .marks .now)) (sym (checked .check-net .ensures) ∙ net .net .given .1)
 
 returns-2 : tie.Need-returns-2
@@ -29,7 +29,7 @@ returns-2 c =
     let net = searched .before .before .before in
     let checked = net .before .before in
     let a = checked .before .before .before .args in
-    gone-on (λ r. clash (Refused r) (a .marks .now)) (a .o) (a .k) (a .words .now) (clashLines (clashSearch (a .o) (a .k) (a .words .now)) (a .marks .now))
+    gone-on (λ r. clashOutcome (Refused r) (a .marks .now)) (a .o) (a .k) (a .words .now) (clashClauses (clashSearch (a .o) (a .k) (a .words .now)) (a .marks .now))
     (clashDone (clashSearch (a .o) (a .k) (a .words .now)) (a .marks .now)) (sym (checked .check-net .ensures) ∙ net .net2 .given .1) (searched .clash-net .ensures)
 
 pub find-clash-spec : {M : Type 1} → statement M

@@ -4,7 +4,7 @@ use borrow.Author.Needs.{needs}
 use Rattle.theory.specs.Completion.{complete}
 use Rattle.net.proofs.OnNet.{passed-on, gone-on}
 use Rattle.question.proofs.Outcomes.{checked-net}
-use Rattle.completion.specs.Table.{completion, completionLines, completionDone}
+use Rattle.completion.specs.Table.{completionOutcome, completionClauses, completionDone}
 use Rattle.completion.specs.declared.Completed.the-variants.{Refused}
 use Rattle.completion.proofs.complete_net.Statement.{statement}
 use Rattle.completion.proofs.complete_net.Tie as tie
@@ -21,8 +21,8 @@ returns c =
     let net = c .before in
     let checked = net .before .before in
     let a = checked .before .before .before .before .args in
-    passed-on (λ r. completion (Refused r) (a .marks .now) (a .list .now)) (a .o) (a .k) (a .words .now)
-    (completionLines (complete (a .o) (a .k) (a .words .now)) (a .marks .now) (a .list .now))
+    passed-on (λ r. completionOutcome (Refused r) (a .marks .now) (a .list .now)) (a .o) (a .k) (a .words .now)
+    (completionClauses (complete (a .o) (a .k) (a .words .now)) (a .marks .now) (a .list .now))
     (completionDone (complete (a .o) (a .k) (a .words .now)) (a .marks .now) (a .list .now)) (sym (checked .check-net .ensures) ∙ net .net .given .1)
 
 returns-2 : tie.Need-returns-2
@@ -31,8 +31,8 @@ returns-2 c =
     let net = done .before .before .before .before in
     let checked = net .before .before in
     let a = checked .before .before .before .before .args in
-    gone-on (λ r. completion (Refused r) (a .marks .now) (a .list .now)) (a .o) (a .k) (a .words .now)
-    (completionLines (complete (a .o) (a .k) (a .words .now)) (a .marks .now) (a .list .now))
+    gone-on (λ r. completionOutcome (Refused r) (a .marks .now) (a .list .now)) (a .o) (a .k) (a .words .now)
+    (completionClauses (complete (a .o) (a .k) (a .words .now)) (a .marks .now) (a .list .now))
     (completionDone (complete (a .o) (a .k) (a .words .now)) (a .marks .now) (a .list .now)) (sym (checked .check-net .ensures) ∙ net .net2 .given .1) (done .complete-checked .ensures)
 
 pub complete-net-spec : {M : Type 1} → statement M

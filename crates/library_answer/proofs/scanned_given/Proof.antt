@@ -1,18 +1,18 @@
--- A scan has row 0 or 6 with its count, and a refusal its own row.
+-- A scan has number 0 or 6 with its count, and a refusal its own number.
 use borrow.Author.Needs.{needs}
-use Rattle.scan.specs.Table.{scanRow}
-use Rattle.net.proofs.Rows.{carry-row}
+use Rattle.scan.specs.Table.{scanReply}
+use Rattle.net.proofs.Replies.{carry-reply}
 use Rattle.library_answer.proofs.scanned_given.Statement.{statement}
 use Rattle.library_answer.proofs.scanned_given.Tie as tie
 
 returns : tie.Need-returns
-returns c = carry-row scanRow (c .before .before .scanned .given .1) (c .row-of .ensures)
+returns c = carry-reply scanReply (c .before .before .scanned .given .1) (c .reply-of .ensures)
 
 returns-2 : tie.Need-returns-2
-returns-2 c = carry-row scanRow (c .before .before .scanned2 .given .1) (c .row-of2 .ensures)
+returns-2 c = carry-reply scanReply (c .before .before .scanned2 .given .1) (c .reply-of2 .ensures)
 
 returns-3 : tie.Need-returns-3
-returns-3 c = carry-row scanRow (c .before .before .scanned3 .given .1) (c .refusal-given .ensures)
+returns-3 c = carry-reply scanReply (c .before .before .scanned3 .given .1) (c .refusal-given .ensures)
 
 pub scanned-given-spec : {M : Type 1} → statement M
 scanned-given-spec =

@@ -1,4 +1,4 @@
--- Each return is one row of the check.
+-- Each return is one clause of the check.
 use mathlib.Core.Path.{sym}
 use native.Mathlib.Omega.{arith}
 use borrow.Author.Needs.{needs}

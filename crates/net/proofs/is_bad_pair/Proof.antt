@@ -1,4 +1,4 @@
--- Each return is one part of row 4 that holds, or the last.
+-- Each return is one part of number 4 that holds, or the last.
 use native.Mathlib.Omega.{arith}
 use borrow.Author.Tests.{le-ltb, lt-ltb, le-leb, lt-leb}
 use Rattle.net.proofs.is_bad_pair.Statement.{statement}

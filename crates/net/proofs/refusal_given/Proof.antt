@@ -1,24 +1,24 @@
--- Each refusal has its row.
+-- Each refusal has its reply.
 use borrow.Author.Needs.{needs}
-use Rattle.net.specs.Table.{refusalRow}
-use Rattle.net.proofs.Rows.{carry-row}
+use Rattle.net.specs.Table.{refusalReply}
+use Rattle.net.proofs.Replies.{carry-reply}
 use Rattle.net.proofs.refusal_given.Statement.{statement}
 use Rattle.net.proofs.refusal_given.Tie as tie
 
 returns : tie.Need-returns
-returns c = carry-row refusalRow (c .before .enum-told .given .1) (c .row-of .ensures)
+returns c = carry-reply refusalReply (c .before .enum-told .given .1) (c .reply-of .ensures)
 
 returns-2 : tie.Need-returns-2
-returns-2 c = carry-row refusalRow (c .before .enum-told2 .given .1) (c .row-of2 .ensures)
+returns-2 c = carry-reply refusalReply (c .before .enum-told2 .given .1) (c .reply-of2 .ensures)
 
 returns-3 : tie.Need-returns-3
-returns-3 c = carry-row refusalRow (c .before .before .refusal .given .1) (c .row-of3 .ensures)
+returns-3 c = carry-reply refusalReply (c .before .before .refusal .given .1) (c .reply-of3 .ensures)
 
 returns-4 : tie.Need-returns-4
-returns-4 c = carry-row refusalRow (c .before .enum-told3 .given .1) (c .row-of4 .ensures)
+returns-4 c = carry-reply refusalReply (c .before .enum-told3 .given .1) (c .reply-of4 .ensures)
 
 returns-5 : tie.Need-returns-5
-returns-5 c = carry-row refusalRow (c .before .enum-told4 .given .1) (c .row-of5 .ensures)
+returns-5 c = carry-reply refusalReply (c .before .enum-told4 .given .1) (c .reply-of5 .ensures)
 
 pub refusal-given-spec : {M : Type 1} → statement M
 refusal-given-spec =

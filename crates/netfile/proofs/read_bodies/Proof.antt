@@ -3,7 +3,7 @@ use mathlib.Core.Path.{sym, _∙_}
 use native.Mathlib.Omega.{arith}
 use borrow.Author.Needs.{needs}
 use Rattle.netfile_entry.proofs.Opening.{InFile, open-inside}
-use Rattle.netfile.proofs.Reading.{contents-fit, missized, first-closed, second-closed, third-closed, all-open}
+use Rattle.netfile.proofs.Reading.{contents-fit, missized, first-shut, second-shut, third-shut, all-open}
 use Rattle.netfile.proofs.read_bodies.Statement.{statement}
 use Rattle.netfile.proofs.read_bodies.Tie as tie
 
@@ -18,7 +18,7 @@ returns-2 c =
     let first = c .before .before .before in
     let size = first .before in
     c .no-bodies2 .ensures
-    ∙ sym (first-closed _ (sym (size .before .wrong-size .ensures) ∙ size .if1 .left) _ (first .open-entry .ensures) (c .before .enum-told .given .1) _ _ _)
+    ∙ sym (first-shut _ (sym (size .before .wrong-size .ensures) ∙ size .if1 .left) _ (first .open-entry .ensures) (c .before .enum-told .given .1) _ _ _)
 
 open-entry-requires-2 : tie.Need-open-entry-requires-2
 open-entry-requires-2 c κs =
@@ -31,7 +31,7 @@ returns-3 c =
     let first = second .before .before .before .before in
     let size = first .before in
     c .no-bodies3 .ensures
-    ∙ sym (second-closed _ (sym (size .before .wrong-size .ensures) ∙ size .if1 .left)
+    ∙ sym (second-shut _ (sym (size .before .wrong-size .ensures) ∙ size .if1 .left)
     _ _ _ (first .open-entry .ensures) (second .before .before .first .given .1)
     _ (second .open-entry2 .ensures) (c .before .enum-told2 .given .1) _ _ _)
 
@@ -47,7 +47,7 @@ returns-4 c =
     let first = second .before .before .before .before in
     let size = first .before in
     c .no-bodies4 .ensures
-    ∙ sym (third-closed _ (sym (size .before .wrong-size .ensures) ∙ size .if1 .left)
+    ∙ sym (third-shut _ (sym (size .before .wrong-size .ensures) ∙ size .if1 .left)
     _ _ _ (first .open-entry .ensures) (second .before .before .first .given .1)
     _ _ _ (second .open-entry2 .ensures) (third .before .before .second .given .1)
     _ (third .open-entry3 .ensures) (c .before .enum-told3 .given .1) _ _ _)

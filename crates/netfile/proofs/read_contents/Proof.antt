@@ -1,7 +1,7 @@
 -- `read_contents`: the size, then the three entries in turn.
 use mathlib.Core.Path.{sym, _∙_}
 use native.Mathlib.Omega.{arith}
-use Rattle.netfile.proofs.Reading.{contents-fit, missized, first-closed, second-closed, third-closed, all-open}
+use Rattle.netfile.proofs.Reading.{contents-fit, missized, first-shut, second-shut, third-shut, all-open}
 use borrow.Author.Needs.{needs}
 use Rattle.netfile.proofs.read_contents.Statement.{statement}
 use Rattle.netfile.proofs.read_contents.Tie as tie
@@ -16,7 +16,7 @@ returns-2 : tie.Need-returns-2
 returns-2 c =
     let first = c .before .before in
     let size = first .before in
-    sym (first-closed _ (sym (size .before .wrong-size .ensures) ∙ size .if1 .left) _ (first .open-entry .ensures) (c .enum-told .given .1) _ _ _)
+    sym (first-shut _ (sym (size .before .wrong-size .ensures) ∙ size .if1 .left) _ (first .open-entry .ensures) (c .enum-told .given .1) _ _ _)
 
 open-entry-requires-2 : tie.Need-open-entry-requires-2
 open-entry-requires-2 c κs =
@@ -28,7 +28,7 @@ returns-3 c =
     let second = c .before .before in
     let first = second .before .before .before .before in
     let size = first .before in
-    sym (second-closed _ (sym (size .before .wrong-size .ensures) ∙ size .if1 .left) _ _ _ (first .open-entry .ensures) (second .before .before .first .given .1)
+    sym (second-shut _ (sym (size .before .wrong-size .ensures) ∙ size .if1 .left) _ _ _ (first .open-entry .ensures) (second .before .before .first .given .1)
     _ (second .open-entry2 .ensures) (c .enum-told2 .given .1) _ _ _)
 
 open-entry-requires-3 : tie.Need-open-entry-requires-3
@@ -42,7 +42,7 @@ returns-4 c =
     let second = third .before .before .before .before in
     let first = second .before .before .before .before in
     let size = first .before in
-    sym (third-closed _ (sym (size .before .wrong-size .ensures) ∙ size .if1 .left) _ _ _ (first .open-entry .ensures) (second .before .before .first .given .1)
+    sym (third-shut _ (sym (size .before .wrong-size .ensures) ∙ size .if1 .left) _ _ _ (first .open-entry .ensures) (second .before .before .first .given .1)
     _ _ _ (second .open-entry2 .ensures) (third .before .before .second .given .1)
     _ (third .open-entry3 .ensures) (c .enum-told3 .given .1) _ _ _)
 

@@ -2,7 +2,7 @@
 use mathlib.Core.Path.{sym, _∙_}
 use borrow.Author.Needs.{needs}
 use Rattle.net.proofs.OnNet.{passed-on, gone-on}
-use Rattle.question.specs.Table.{question, questionLines, questionDone}
+use Rattle.question.specs.Table.{questionOutcome, questionClauses, questionDone}
 use Rattle.question.specs.declared.Asked.the-variants.{Refused}
 use Rattle.question.proofs.Outcomes.{checked-net}
 use Rattle.question.proofs.ask_question.Statement.{statement}
@@ -20,7 +20,7 @@ returns c =
     let net = c .before in
     let checked = net .before .before in
     let a = checked .before .before .before .args in
-    passed-on (λ r. question (Refused r) (a .marks .now)) (a .o) (a .k) (a .words .now) (questionLines (a .o) (a .x) (a .y) (a .marks .now))
+    passed-on (λ r. questionOutcome (Refused r) (a .marks .now)) (a .o) (a .k) (a .words .now) (questionClauses (a .o) (a .x) (a .y) (a .marks .now))
     (questionDone (a .words .now) (a .x) (a .y) (a .marks .now)) (sym (checked .check-net .ensures) ∙ net .net .given .1)
 
 returns-2 : tie.Need-returns-2
@@ -29,7 +29,7 @@ returns-2 c =
     let net = asked .before .before .before in
     let checked = net .before .before in
     let a = checked .before .before .before .args in
-    gone-on (λ r. question (Refused r) (a .marks .now)) (a .o) (a .k) (a .words .now) (questionLines (a .o) (a .x) (a .y) (a .marks .now))
+    gone-on (λ r. questionOutcome (Refused r) (a .marks .now)) (a .o) (a .k) (a .words .now) (questionClauses (a .o) (a .x) (a .y) (a .marks .now))
     (questionDone (a .words .now) (a .x) (a .y) (a .marks .now)) (sym (checked .check-net .ensures) ∙ net .net2 .given .1) (asked .ask-net .ensures)
 
 pub ask-question-spec : {M : Type 1} → statement M

@@ -2,7 +2,7 @@
 use mathlib.Core.Path.{sym, _∙_}
 use borrow.Author.Needs.{needs}
 use Rattle.net.proofs.OnNet.{passed-on, gone-on}
-use Rattle.reason.specs.Table.{reason, reasonLines, reasonDone}
+use Rattle.reason.specs.Table.{reasonOutcome, reasonClauses, reasonDone}
 use Rattle.reason.specs.declared.Reasoned.the-variants.{Refused}
 use Rattle.reason.proofs.NetReason.{checked-net}
 use Rattle.reason.proofs.find_reason.Statement.{statement}
@@ -21,8 +21,8 @@ returns c =
     let net = found .before .before .before .before in
     let checked = net .before .before in
     let a = checked .before .before .before .before .args in
-    gone-on (λ r. reason (Refused r) (a .scratch .now) (a .list .now)) (a .o) (a .k) (a .words .now)
-    (reasonLines (a .o) (a .words .now) (a .x) (a .y) (a .sign) (a .scratch .now) (a .list .now))
+    gone-on (λ r. reasonOutcome (Refused r) (a .scratch .now) (a .list .now)) (a .o) (a .k) (a .words .now)
+    (reasonClauses (a .o) (a .words .now) (a .x) (a .y) (a .sign) (a .scratch .now) (a .list .now))
     (reasonDone (a .words .now) (a .x) (a .y) (a .sign) (a .scratch .now) (a .list .now)) (sym (checked .check-net .ensures) ∙ net .net .given .1)
     (found .reason-net .ensures)
 
@@ -31,8 +31,8 @@ returns-2 c =
     let net = c .before in
     let checked = net .before .before in
     let a = checked .before .before .before .before .args in
-    passed-on (λ r. reason (Refused r) (a .scratch .now) (a .list .now)) (a .o) (a .k) (a .words .now)
-    (reasonLines (a .o) (a .words .now) (a .x) (a .y) (a .sign) (a .scratch .now) (a .list .now))
+    passed-on (λ r. reasonOutcome (Refused r) (a .scratch .now) (a .list .now)) (a .o) (a .k) (a .words .now)
+    (reasonClauses (a .o) (a .words .now) (a .x) (a .y) (a .sign) (a .scratch .now) (a .list .now))
     (reasonDone (a .words .now) (a .x) (a .y) (a .sign) (a .scratch .now) (a .list .now)) (sym (checked .check-net .ensures) ∙ net .net2 .given .1)
 
 pub find-reason-spec : {M : Type 1} → statement M

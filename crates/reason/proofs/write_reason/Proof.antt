@@ -1,4 +1,4 @@
--- Each return is one row over the places found.
+-- Each return is one clause over the places found.
 use borrow.Author.Needs.{needs}
 use native.Mathlib.Omega.{arith}
 use lib.ListN.{getD}

@@ -2,7 +2,7 @@
 use mathlib.Core.Path.{sym, _∙_}
 use borrow.Author.Needs.{needs}
 use Rattle.net.proofs.OnNet.{passed-on, gone-on}
-use Rattle.reason_check.specs.Table.{checkLines, checkDone}
+use Rattle.reason_check.specs.Table.{checkClauses, checkDone}
 use Rattle.reason_check.specs.declared.Verdict.the-variants.{Refused}
 use Rattle.reason_check.proofs.check_reason.Statement.{statement}
 use Rattle.reason_check.proofs.check_reason.Tie as tie
@@ -12,7 +12,7 @@ returns c =
     let net = c .before in
     let checked = net .before .before in
     let a = checked .before .before .before .args in
-    passed-on Refused (a .o) (a .k) (a .words .now) (checkLines (a .o) (a .x) (a .y) (a .sign))
+    passed-on Refused (a .o) (a .k) (a .words .now) (checkClauses (a .o) (a .x) (a .y) (a .sign))
     (λ _. checkDone (a .o) (a .k) (a .words .now) (a .x) (a .y) (a .sign) (a .list .now)) (sym (checked .check-net .ensures) ∙ net .net .given .1)
 
 returns-2 : tie.Need-returns-2
@@ -20,7 +20,7 @@ returns-2 c =
     let net = c .before .before in
     let checked = net .before .before in
     let a = checked .before .before .before .args in
-    gone-on Refused (a .o) (a .k) (a .words .now) (checkLines (a .o) (a .x) (a .y) (a .sign))
+    gone-on Refused (a .o) (a .k) (a .words .now) (checkClauses (a .o) (a .x) (a .y) (a .sign))
     (λ _. checkDone (a .o) (a .k) (a .words .now) (a .x) (a .y) (a .sign) (a .list .now)) (sym (checked .check-net .ensures) ∙ net .net2 .given .1)
     (c .check-list .ensures)
 

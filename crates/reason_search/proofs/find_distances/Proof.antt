@@ -8,7 +8,7 @@ use lib.ListN.{length}
 use Rattle.theory.specs.Words.{signAt}
 use Rattle.theory.specs.Reasons.{goal}
 use Rattle.theory.specs.Searches.{arcs, levels}
-use Rattle.theory.proofs.Distances.{goal-in}
+use Rattle.theory.proofs.reason.Distances.{goal-in}
 use Rattle.reason_search.proofs.Levelling.{levels-begin, levels-next, levels-stop, levels-end}
 use Rattle.reason_search.proofs.find_distances.Statement.{statement}
 use Rattle.reason_search.proofs.find_distances.Tie as tie

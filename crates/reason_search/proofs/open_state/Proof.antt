@@ -1,7 +1,7 @@
 -- Each return is one case of the move.
 use mathlib.Core.Path.{refl, sym}
 use borrow.Author.Needs.{needs}
-use Rattle.theory_laws.proofs.Booleans.{clash}
+use Rattle.theory_laws.proofs.Booleans.{contradiction}
 use Rattle.reason_search.proofs.Opening.{not-at-level, has-distance, gets-distance}
 use Rattle.reason_search.proofs.open_state.Statement.{statement}
 use Rattle.reason_search.proofs.open_state.Tie as tie
@@ -22,7 +22,7 @@ returns-3 : tie.Need-returns-3
 returns-3 c =
     let s = c .before .before .before .before in
     let a = s .args in
-    (gets-distance (a .i) (a .from) (a .to) (a .places .now) (s .pre .1 .0) (s .pre .1 .1) (c .before .before .if1 .left) (c .if2 .left), λ e. clash (sym e))
+    (gets-distance (a .i) (a .from) (a .to) (a .places .now) (s .pre .1 .0) (s .pre .1 .1) (c .before .before .if1 .left) (c .if2 .left), λ e. contradiction (sym e))
 
 pub open-state-spec : {M : Type 1} → statement M
 open-state-spec =

@@ -6,7 +6,7 @@ use native.Mathlib.Omega.{arith}
 use lib.ListN.{length, drop}
 use Rattle.theory.specs.Words.{signAt}
 use Rattle.theory.specs.Searches.{arcs, level}
-use Rattle.theory.proofs.Searching.{level-end}
+use Rattle.theory.proofs.reason.Searching.{level-end}
 use Rattle.reason_search.specs.Search.{Kept}
 use Rattle.reason_search.proofs.Opening.{kept-then}
 use Rattle.reason_search.proofs.Levelling.{ends-at, level-more}

@@ -6,7 +6,7 @@ use native.Mathlib.Omega.{arith}
 use lib.ListN.{length, drop}
 use Rattle.theory.specs.Words.{signAt}
 use Rattle.theory.specs.Searches.{arcs, next}
-use Rattle.theory.proofs.Searching.{next-end}
+use Rattle.theory.proofs.reason.Searching.{next-end}
 use Rattle.reason_search.proofs.Levelling.{ends-at}
 use Rattle.reason_walk.proofs.Nearer.{next-more}
 use Rattle.reason_walk.proofs.next_state.Statement.{statement}

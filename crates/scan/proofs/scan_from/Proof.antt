@@ -2,7 +2,7 @@
 use mathlib.Core.Path.{sym, _∙_}
 use borrow.Author.Needs.{needs}
 use Rattle.net.proofs.OnNet.{passed-on, gone-on}
-use Rattle.scan.specs.Table.{outcome, scanLines, scanDone}
+use Rattle.scan.specs.Table.{scanOutcome, scanClauses, scanDone}
 use Rattle.scan.specs.declared.Scanned.the-variants.{Refused}
 use Rattle.scan.proofs.Outcomes.{checked-inside}
 use Rattle.scan.proofs.scan_from.Statement.{statement}
@@ -20,7 +20,7 @@ returns c =
     let net = c .before in
     let checked = net .before .before in
     let a = checked .before .before .before .args in
-    passed-on (λ r. outcome (Refused r) (a .marks .now)) (a .o) (a .k) (a .words .now) (scanLines (a .kind) (a .o) (a .words .now) (a .x) (a .budget) (a .marks .now))
+    passed-on (λ r. scanOutcome (Refused r) (a .marks .now)) (a .o) (a .k) (a .words .now) (scanClauses (a .kind) (a .o) (a .words .now) (a .x) (a .budget) (a .marks .now))
     (scanDone (a .kind) (a .words .now) (a .x) (a .budget) (a .marks .now)) (sym (checked .check-net .ensures) ∙ net .net .given .1)
 
 returns-2 : tie.Need-returns-2
@@ -29,7 +29,7 @@ returns-2 c =
     let net = ran .before .before .before in
     let checked = net .before .before in
     let a = checked .before .before .before .args in
-    gone-on (λ r. outcome (Refused r) (a .marks .now)) (a .o) (a .k) (a .words .now) (scanLines (a .kind) (a .o) (a .words .now) (a .x) (a .budget) (a .marks .now))
+    gone-on (λ r. scanOutcome (Refused r) (a .marks .now)) (a .o) (a .k) (a .words .now) (scanClauses (a .kind) (a .o) (a .words .now) (a .x) (a .budget) (a .marks .now))
     (scanDone (a .kind) (a .words .now) (a .x) (a .budget) (a .marks .now)) (sym (checked .check-net .ensures) ∙ net .net2 .given .1)
     (ran .scan-net .ensures)
 

@@ -1,16 +1,16 @@
--- Each return is one row of the table, or the scan.
+-- Each return is one clause of the table, or the scan.
 use mathlib.Core.Logic.{⊎-elim}
 use lib.ListN.{drop}
 use native.Mathlib.Omega.{arith}
 use borrow.Author.Needs.{needs}
 use Rattle.scan_start.proofs.Starts.{started-low}
-use Rattle.scan.proofs.Outcomes.{scan-far, scan-object, scan-short, scan-ran, Good, good-forward, good-kind}
+use Rattle.scan.proofs.Outcomes.{scan-far, scan-object, scan-short, scan-ran, GoodStart, good-forward, good-kind}
 use Rattle.scan.proofs.scan_net.Statement.{statement}
 use Rattle.scan.proofs.scan_net.Tie as tie
 
 -- Past the tests of the start it is good.
 good : (c : tie.Joined2)
-    → let a = c .before .before .before .before .args in Good (a .kind) (a .o) (a .n) (a .words .now) (a .x) (a .budget) (a .marks .now)
+    → let a = c .before .before .before .before .args in GoodStart (a .kind) (a .o) (a .n) (a .words .now) (a .x) (a .budget) (a .marks .now)
 good c =
     let a = c .before .before .before .before .args in
     ⊎-elim

@@ -7,7 +7,7 @@ use borrow.Author.Needs.{needs}
 use borrow.Author.Tests.{not-true, not-false}
 use lib.ListN.{length}
 use Rattle.theory.specs.Scans.{rounds}
-use Rattle.theory.proofs.Rounds.{loop-spent, loop-last, loop-more}
+use Rattle.theory.proofs.machine.Rounds.{loop-spent, loop-last, loop-more}
 use Rattle.scan_round.specs.Turns.{commands}
 use Rattle.scan_start.specs.Starts.{Low}
 use Rattle.scan_rounds.proofs.scan.Statement.{statement}

@@ -1,9 +1,9 @@
--- The answer of the clash test as a row, and the marks that it leaves.
+-- The answer of the clash test as a reply, and the marks that it leaves.
 use mathlib.Core.Path.{sym, ap}
 use borrow.Author.Needs.{needs}
-use Rattle.clash.specs.Table.{Clash}
-use Rattle.net.proofs.Rows.{carry-row}
-use Rattle.library_row.proofs.Fitting.{carry-fits}
+use Rattle.clash.specs.Table.{ClashOutcome}
+use Rattle.net.proofs.Replies.{carry-reply}
+use Rattle.library_reply.proofs.Fitting.{carry-fits}
 use Rattle.library_answer.proofs.Operations.{clashGives, clash-fits}
 use Rattle.strumelka.proofs.strumelka_clash.Statement.{statement}
 use Rattle.strumelka.proofs.strumelka_clash.Tie as tie
@@ -17,7 +17,7 @@ clashed-given-requires c κs =
 returns : tie.Need-returns
 returns c =
     let e = c .before .before .before .find-clash .ensures in
-    (carry-row clashGives (sym e) (c .clashed-given .ensures), ap (λ (t : Clash). t .marks) e)
+    (carry-reply clashGives (sym e) (c .clashed-given .ensures), ap (λ (t : ClashOutcome). t .marks) e)
 
 pub strumelka-clash-spec : {M : Type 1} → statement M
 strumelka-clash-spec =

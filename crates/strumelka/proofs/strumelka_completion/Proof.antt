@@ -1,9 +1,9 @@
--- The answer of the completion as a row, and the marks and the list that it leaves.
+-- The answer of the completion as a reply, and the marks and the list that it leaves.
 use mathlib.Core.Path.{sym, ap}
 use borrow.Author.Needs.{needs}
-use Rattle.completion.specs.Table.{Completion}
-use Rattle.net.proofs.Rows.{carry-row}
-use Rattle.library_row.proofs.Fitting.{carry-fits}
+use Rattle.completion.specs.Table.{CompletionOutcome}
+use Rattle.net.proofs.Replies.{carry-reply}
+use Rattle.library_reply.proofs.Fitting.{carry-fits}
 use Rattle.library_answer.proofs.Operations.{completionGives, completion-fits}
 use Rattle.strumelka.proofs.strumelka_completion.Statement.{statement}
 use Rattle.strumelka.proofs.strumelka_completion.Tie as tie
@@ -17,7 +17,7 @@ completed-given-requires c κs =
 returns : tie.Need-returns
 returns c =
     let e = c .before .before .before .before .before .complete-net .ensures in
-    (carry-row completionGives (sym e) (c .completed-given .ensures), ap (λ (s : Completion). s .marks) e, ap (λ (s : Completion). s .list) e)
+    (carry-reply completionGives (sym e) (c .completed-given .ensures), ap (λ (s : CompletionOutcome). s .marks) e, ap (λ (s : CompletionOutcome). s .list) e)
 
 pub strumelka-completion-spec : {M : Type 1} → statement M
 strumelka-completion-spec =

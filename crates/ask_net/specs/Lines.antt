@@ -1,0 +1,24 @@
+-- The text that `ask` prints for a net.
+use Prim.Native.Nat.{ℕ, zero, suc, _/_}
+use mathlib.Core.List.{List, [], _++_}
+use lib.ListN.{length, drop}
+use Rattle.theory.specs.Marks.{blank}
+use Rattle.net.specs.Table.{refusalReply}
+use Rattle.net.specs.declared.Checked.{Checked}
+use Rattle.net.specs.declared.Checked.the-variants as checked
+use Rattle.question.specs.Table.{questioned}
+use Rattle.netfile_numbers.specs.Bytes.{u16At}
+use Rattle.text_field.specs.Decimal.{decimal}
+use Rattle.ask_answer.specs.Ending.{field, lastField}
+use Rattle.ask_line.specs.Line.{netWord, lineOf}
+
+-- The lines of the first j questions of a body.
+unfoldable pub linesOf : ℕ → ℕ → List ℕ → ℕ → List ℕ → List ℕ
+linesOf o k ws zero b = []
+linesOf o k ws (suc j) b =
+    lineOf (u16At b 0) (u16At b 2) (questioned o k ws (u16At b 0) (u16At b 2) (blank 1024) .answer) ++ linesOf o k ws j (drop 4 b)
+
+-- The text for a net: a line for each question, or its number and index.
+unfoldable pub netText : ℕ → ℕ → List ℕ → List ℕ → Checked → List ℕ
+netText o k ws b (checked.Nodes n) = linesOf o k ws (length b / 4) b
+netText o k ws b (checked.Refused r) = field netWord (field (decimal (refusalReply r .number)) (lastField (decimal (refusalReply r .first))))
