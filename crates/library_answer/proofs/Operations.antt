@@ -57,7 +57,7 @@ module _ (o k : ℕ) (ws : List ℕ) where
         either clashGives (ltb (length m) n) (λ _. bare)
         (λ _. either clashGives (nowhere (clashSearch o k ws)) (λ _. bare) (λ _. first-clash-fits 0 (clashNodes o k) (omega (arith, net .few)) (net .few)))
 
-    pub clash-fits : Fits (clashGives (clashedBy o k ws m))
+    pub clash-fits : Fits (clashedReply (clashedBy o k ws m .answer))
     clash-fits =
         table-fits o k ws clashGives (λ r. clashOutcome (clashed.Refused r) m) (clashClauses (clashSearch o k ws) m) (clashDone (clashSearch o k ws) m) (λ r. refl)
         (λ n e. clash-net-fits n (check-is-net o k ws n e .1))
@@ -76,7 +76,7 @@ module _ (o k : ℕ) (ws m l : List ℕ) where
       either completionGives (ltb (length m) n) (λ _. bare)
       (λ _. either completionGives (ltb (length l) (length (complete o k ws))) (λ _. fits low (omega arith)) (λ _. fits low (omega arith)))
 
-  pub completion-fits : Fits (completionGives (completedBy o k ws m l))
+  pub completion-fits : Fits (completedReply (completedBy o k ws m l .answer))
   completion-fits =
       table-fits o k ws completionGives (λ r. completionOutcome (completed.Refused r) m l) (completionClauses (complete o k ws) m l) (completionDone (complete o k ws) m l) (λ r. refl)
       (λ n e. completion-net-fits n (check-is-net o k ws n e .1))

@@ -14,6 +14,7 @@ use Rattle.theory.specs.Words.{nodeLimit, wordLimit}
 use Rattle.theory.specs.Nets.{LegalWord, LegalWords, Net}
 use Rattle.theory.proofs.Inside.{at-member}
 use Rattle.net.specs.Legal.{legal, legalPrefix}
+use Rattle.net.specs.FirstIllegal.{FirstIllegal}
 use Rattle.net.specs.Table.{checkNet, checkedReply}
 use Rattle.net.specs.declared.Refusal.the-variants.{TooManyNodes, TooManyWords, IllegalWord}
 use Rattle.net.specs.declared.Checked.{Checked}
@@ -63,12 +64,6 @@ chose-illegal false false false i n j e = apart e refl
 at-places : (P : ℕ → Type 0) (ws : List ℕ) → ((j : ℕ) → j < length ws → P (getD ws j 0)) → (w : ℕ) → List·Memᴰ w ws → P w
 at-places P (v ∷ ws) f w (List·Memᴰ·head e) = subst P (sym e) (f 0 (suc-le-suc zero-le))
 at-places P (v ∷ ws) f w (List·Memᴰ·tail h) = at-places P ws (λ j l. f (suc j) (suc-le-suc l)) w h
-
--- Word i is illegal and every word before it is legal.
-pub record FirstIllegal (o k : ℕ) (ws : List ℕ) (i : ℕ) : Type 0 where
-  pub below : i < length ws
-  pub illegal : LegalWord o k (getD ws i 0) → ⊥
-  pub before : (j : ℕ) → j < i → LegalWord o k (getD ws j 0)
 
 module _ (o k : ℕ) (ws : List ℕ) where
   many : Bool

@@ -9,7 +9,8 @@ use native.Mathlib.Decide.{decLe}
 use lib.ListN.{length}
 use lib.Dec.{eqb, ltb}
 use Rattle.theory_laws.proofs.Booleans.{contradiction, not-so}
-use Rattle.theory_laws.proofs.Deciding.{Decides, decides-equal, decides-below, decides-most, decides-both, decides-either}
+use Rattle.theory_laws.specs.Deciding.{Decides}
+use Rattle.theory_laws.proofs.Deciding.{decides-equal, decides-below, decides-most, decides-both, decides-either}
 use Rattle.netfile.proofs.Reading.{missized, first-shut, second-shut, third-shut, all-open}
 use Rattle.netfile_numbers.specs.Bytes.{u32At}
 use Rattle.netfile_entry.specs.Entries.{contentsSize, entryOpens, entryAt}

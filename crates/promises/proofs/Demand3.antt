@@ -8,11 +8,10 @@ use lib.ListN.{length, take, drop, length-append, length-replicate}
 use lib.Seq.{take-append-seam}
 use borrow.Author.Tests.{ltb-true, le-ltb}
 use Rattle.theory.specs.Words.{wordLimit}
-use Rattle.theory.specs.Nets.{Kind, Net}
+use Rattle.theory.specs.Nets.{Kind, Net, AllIn}
 use Rattle.theory.specs.Marks.{blank}
 use Rattle.theory.specs.Completion.{complete, Lists}
 use Rattle.theory.proofs.completion.Completing.{complete-lists, lists-unique}
-use Rattle.theory.proofs.machine.Order.{AllIn}
 use Rattle.theory.proofs.completion.Demand3.{complete-net, complete-again, complete-part, alike as complete-alike, joining-keeps, others-keep, SameAnswer}
 use Rattle.completion.specs.Table.{CompletionOutcome, completedBy, completedReply}
 use Rattle.completion.specs.declared.Completed.{Completed}

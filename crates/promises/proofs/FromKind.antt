@@ -15,7 +15,7 @@ use Rattle.theory.specs.Completion.{complete, Lists}
 use Rattle.theory.proofs.machine.Bounds.{kind-done}
 use Rattle.theory.proofs.completion.Completing.{complete-lists, lists-unique}
 use Rattle.theory.proofs.completion.Demand3.{part-of, lists-as, same-completed, beside-joined, others-supported}
-use Rattle.theory.proofs.Inside.{legal-links}
+use Rattle.theory.proofs.Legal.{legal-links}
 use Rattle.theory.proofs.support.Joining.{Sub, ends}
 use Rattle.net.proofs.Replies.{refusal-numbers}
 use Rattle.scan.specs.Table.{ScanOutcome, scanTable, scanReply}

@@ -9,7 +9,7 @@ use Rattle.theory.specs.Nets.{Links, LegalWords}
 use Rattle.theory.specs.Support.{Supported}
 use Rattle.theory.specs.Marks.{mark, link, links, command, round, blank, markerOf, At}
 use Rattle.theory.specs.Scans.{after, same, rounds}
-use Rattle.theory.proofs.Inside.{legal-links}
+use Rattle.theory.proofs.Legal.{legal-links}
 use Rattle.theory.proofs.support.Joining.{ends}
 use Rattle.net.specs.Legal.{legalPrefix}
 use Rattle.net.specs.Table.{checkNet}

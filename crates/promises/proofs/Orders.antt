@@ -9,11 +9,11 @@ use lib.Dec.{ltb, leb}
 use lib.ListN.{length, drop}
 use borrow.Author.Tests.{leb-false}
 use Rattle.theory_laws.proofs.Booleans.{or-none-left}
-use Rattle.theory.specs.Nets.{Net}
+use Rattle.theory.specs.Nets.{Net, AllIn}
 use Rattle.theory.specs.Marks.{forward, kindly, forwardStart, kindStart}
 use Rattle.theory.specs.Scans.{Scan, rounds}
 use Rattle.theory.proofs.Inside.{legal-inside}
-use Rattle.theory.proofs.machine.Order.{AllIn, rounds-order}
+use Rattle.theory.proofs.machine.Order.{rounds-order}
 use Rattle.theory.proofs.machine.Starts.{forward-long, kind-long, forward-puts-8, kindly-puts-8}
 use Rattle.net.specs.Table.{badPair}
 use Rattle.net.proofs.NetCheck.{net-is-checked}

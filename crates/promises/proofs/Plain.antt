@@ -15,7 +15,7 @@ use Rattle.theory.specs.Scans.{Count}
 use Rattle.net.specs.Legal.{legalPrefix}
 use Rattle.net.specs.Clauses.{Clause, clause}
 use Rattle.net.specs.Table.{checkNet}
-use Rattle.net.proofs.NetCheck.{FirstIllegal}
+use Rattle.net.specs.FirstIllegal.{FirstIllegal}
 use Rattle.scan.specs.Table.{forwardScanned, kindScanned}
 use Rattle.theory.specs.Completion.{Lists, complete}
 use Rattle.theory.proofs.completion.Completing.{complete-lists, lists-unique}

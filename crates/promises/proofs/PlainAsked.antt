@@ -13,13 +13,13 @@ use Rattle.theory.specs.Nets.{Links, Net}
 use Rattle.theory.specs.Support.{Supported}
 use Rattle.theory.specs.Reasons.{written, never}
 use Rattle.theory.specs.Searches.{distances}
-use Rattle.theory.proofs.Inside.{legal-links}
+use Rattle.theory.proofs.Legal.{legal-links}
 use Rattle.theory.proofs.support.Lemma1.{lemma1}
 use Rattle.theory.proofs.reason.Repeats.{strict-shows}
 use Rattle.theory.proofs.reason.Shortest.{shortest-unique}
 use Rattle.net.specs.Legal.{legalPrefix}
 use Rattle.net.specs.Good.{GoodPair, GoodStatement}
-use Rattle.net.proofs.NetCheck.{FirstIllegal}
+use Rattle.net.specs.FirstIllegal.{FirstIllegal}
 use Rattle.net.proofs.Good.{good-pair, good-statement, good-kind}
 use Rattle.question.specs.Table.{questioned}
 use Rattle.reason.specs.Table.{reasonOf, reasoned}

@@ -11,13 +11,12 @@ use lib.ListN.{length, getD, drop}
 use lib.Seq.{ext-getD}
 use Rattle.theory_laws.proofs.Booleans.{same-test}
 use Rattle.theory.specs.Words.{Sign, is, isnt, signNumber, signAt}
-use Rattle.theory.specs.Nets.{Kind, Links, Net}
+use Rattle.theory.specs.Nets.{Kind, Links, Net, AllIn}
 use Rattle.theory.specs.Scans.{Scan}
 use Rattle.theory.specs.Completion.{fullMarks, rows, complete}
 use Rattle.theory.specs.Reasons.{Moves, up, across, down, goal, never}
 use Rattle.theory.specs.Searches.{distances, reasonStates}
 use Rattle.theory.specs.Checks.{listed, allSteps, passes}
-use Rattle.theory.proofs.machine.Order.{AllIn}
 use Rattle.theory.proofs.reason.Best.{best-unique}
 use Rattle.theory.proofs.reason.Distances.{distance-into, distance-unique, distances-length, distances-right}
 use Rattle.theory.proofs.reason.Reason.{best-into, states-best}

@@ -18,16 +18,18 @@ use Rattle.theory.specs.Scans.{rounds, Count}
 use Rattle.theory.specs.Reasons.{never}
 use Rattle.theory.specs.Searches.{distances}
 use Rattle.theory.specs.declared.Command.{Command}
-use Rattle.theory_laws.proofs.Deciding.{Decides, decides-below, decides-not, decides-same}
+use Rattle.theory_laws.specs.Deciding.{Decides}
+use Rattle.theory_laws.proofs.Deciding.{decides-below, decides-not, decides-same}
 use Rattle.theory.proofs.machine.Budgets.{ends-within, last-round, count-unique}
 use Rattle.theory.proofs.reason.Distances.{distances-small}
 use Rattle.theory.proofs.reason.Reason.{reason-exactly}
 use Rattle.theory.proofs.Inside.{at-member}
 use Rattle.net.specs.Legal.{legal, legalPrefix}
 use Rattle.net.proofs.Legality.{legal-means, prefix-legal, prefix-illegal, prefix-is}
-use Rattle.net.proofs.NetCheck.{FirstIllegal, check-is-net}
+use Rattle.net.proofs.NetCheck.{check-is-net}
 use Rattle.net.specs.Table.{checkNet, badPair, badStatement}
 use Rattle.net.specs.Good.{GoodPair, GoodStatement}
+use Rattle.net.specs.FirstIllegal.{FirstIllegal}
 use Rattle.net.proofs.Good.{good-pair, good-statement}
 use Rattle.clash.specs.Table.{clashSearch, nowhere}
 use Rattle.promises.specs.Clashing.{ClashAt}

@@ -10,7 +10,8 @@ use lib.Seq.{take-at, drop-at, length-front, length-take-le}
 use Rattle.theory.specs.Nets.{Net}
 use Rattle.theory.specs.Marks.{forward, forwardStart}
 use Rattle.theory.specs.Scans.{fullScan}
-use Rattle.theory.proofs.Inside.{Inside, legal-inside}
+use Rattle.theory.specs.Inside.{Inside}
+use Rattle.theory.proofs.Inside.{legal-inside}
 use Rattle.theory.proofs.machine.Bounds.{forward-scan-long}
 use Rattle.net.specs.Clauses.{call}
 use Rattle.scan.proofs.Outcomes.{scanEnd, scan-end}

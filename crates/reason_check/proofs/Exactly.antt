@@ -14,7 +14,7 @@ use Rattle.theory.specs.Support.{Supported}
 use Rattle.theory.specs.Reasons.{written, never}
 use Rattle.theory.specs.Searches.{distances, reasonStates, reasonList}
 use Rattle.theory.specs.Checks.{Passes, passes}
-use Rattle.theory.proofs.Inside.{legal-links}
+use Rattle.theory.proofs.Legal.{legal-links}
 use Rattle.theory.proofs.support.Lemma1.{lemma1}
 use Rattle.theory.proofs.reason.Check.{passes-exactly, passes-supported, reason-passes}
 use Rattle.net.specs.Table.{checkNet, badStatement}

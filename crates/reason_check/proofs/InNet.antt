@@ -6,11 +6,11 @@ use mathlib.Core.Logic.{inl, inr, ⊎-elim}
 use native.Mathlib.Omega.{arith}
 use lib.ListN.{drop}
 use Rattle.theory.specs.Words.{Sign, is, isnt, signAt}
-use Rattle.theory.specs.Nets.{Statements, Legal, Links, Net}
+use Rattle.theory.specs.Nets.{Statements, Links, Net}
 use Rattle.theory.specs.Paths.{Step, First, Crossing, Second, Shows}
 use Rattle.theory.specs.Reasons.{written}
 use Rattle.theory.specs.Checks.{Passes}
-use Rattle.theory.proofs.Inside.{legal-links}
+use Rattle.theory.proofs.Legal.{Legal, legal-links}
 use Rattle.net.specs.Good.{GoodStatement}
 use Rattle.reason_check.specs.Table.{verdict}
 use Rattle.reason_check.specs.declared.Verdict.the-variants.{Fails}

@@ -9,7 +9,8 @@ use Rattle.theory.specs.Words.{Sign, signAt}
 use Rattle.theory.specs.Nets.{Kind, Net}
 use Rattle.theory.specs.Reasons.{goal, never}
 use Rattle.theory.specs.Searches.{arcs, level, levels, distances}
-use Rattle.theory.proofs.Inside.{Ends, at-member}
+use Rattle.theory.specs.Inside.{Ends}
+use Rattle.theory.proofs.Inside.{at-member}
 use Rattle.theory.proofs.reason.Searching.{arcsAt, level-go, levels-start, levels-go, search-stops, search-ends}
 
 -- The ends of word j of a net are nodes.

@@ -7,7 +7,7 @@ ghost use Rattle.theory.specs.Words.{signAt, tailOf, headOf, parity};
 ghost use Rattle.theory.specs.Nets.{Net};
 ghost use Rattle.theory.specs.Reasons.{goal, never};
 ghost use Rattle.theory.specs.Searches.{arc, arcsOf, arcs, level, distances};
-ghost use Rattle.theory.proofs.Inside.{Ends};
+ghost use Rattle.theory.specs.Inside.{Ends};
 ghost use Rattle.reason_search.specs.Search.{Kept};
 use net::head_of;
 use net::tail_of;

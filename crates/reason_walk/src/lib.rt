@@ -7,7 +7,7 @@ ghost use Rattle.theory.specs.Words.{signAt, tailOf, headOf, parity};
 ghost use Rattle.theory.specs.Nets.{Net};
 ghost use Rattle.theory.specs.Reasons.{never};
 ghost use Rattle.theory.specs.Searches.{arc, arcsOf, arcs, next, firsts, nodeOf};
-ghost use Rattle.theory.proofs.Inside.{Ends};
+ghost use Rattle.theory.specs.Inside.{Ends};
 ghost use Rattle.reason_walk.specs.Walk.{Leads, statesFrom, firstPart};
 use net::head_of;
 use net::tail_of;

@@ -9,8 +9,9 @@ use lib.Dec.{ltb, leb}
 use lib.ListN.{length, drop}
 use Rattle.theory_laws.proofs.Booleans.{or-true}
 use Rattle.theory.specs.Scans.{Scan, after, rounds}
+use Rattle.theory.specs.Inside.{Inside}
 use Rattle.theory.specs.declared.Command.{Command}
-use Rattle.theory.proofs.Inside.{Inside, legal-inside}
+use Rattle.theory.proofs.Inside.{legal-inside}
 use Rattle.theory.proofs.machine.Frame.{rounds-frame}
 use Rattle.theory.proofs.machine.Budgets.{spent-marks}
 use Rattle.net.specs.Clauses.{call}

@@ -1,7 +1,7 @@
 // The marker machine: the forward scan and the kind scan, each from its start within its budget.
 ghost use mathlib.Core.Path.{_≡_};
 ghost use Prim.Native.Nat.{_+_, _≤_};
-ghost use Rattle.theory.proofs.Inside.{Inside};
+ghost use Rattle.theory.specs.Inside.{Inside};
 ghost use Rattle.scan.specs.Table.{scanOutcome, scanClauses, scanTable, scanDone, forwardScanned, kindScanned};
 ghost use Rattle.net.specs.Clauses.{call};
 use net::Checked;

@@ -7,8 +7,9 @@ use borrow.Author.Count.{below-more}
 use lib.ListN.{length, getD, set}
 use lib.Seq.{getD-set-same, getD-set-other}
 use Rattle.theory.specs.Marks.{near, link, links}
+use Rattle.theory.specs.Inside.{Ends, Inside}
 use Rattle.theory.specs.declared.Command.{Command}
-use Rattle.theory.proofs.Inside.{Ends, Inside, near-in, inside-first, inside-rest}
+use Rattle.theory.proofs.Inside.{near-in, inside-first, inside-rest}
 use Rattle.scan_command.specs.Copies.{Agree}
 
 -- A copy that agrees below i, with one byte more.

@@ -8,8 +8,9 @@ use lib.Bits.{bitOr}
 use lib.ListN.{length, getD, set}
 use Rattle.theory.specs.Words.{parity}
 use Rattle.theory.specs.Marks.{has, near, far, mark, link}
+use Rattle.theory.specs.Growth.{Set}
 use Rattle.theory.specs.declared.Command.{Command}
-use Rattle.theory.proofs.machine.Growth.{Set, mark-had, mark-more}
+use Rattle.theory.proofs.machine.Growth.{mark-had, mark-more}
 
 module _ (c : Command) (old : List ℕ) (w : ℕ) (m : List ℕ) where
   -- A link of the other sign does nothing.

@@ -8,9 +8,10 @@ use native.Mathlib.Omega.{arith}
 use native.Mathlib.Nat.{le-refl}
 use lib.ListN.{length}
 use Rattle.theory.specs.Marks.{T, F, U, command, round, toHead, toTail}
+use Rattle.theory.specs.Inside.{Inside}
+use Rattle.theory.specs.Growth.{Set}
 use Rattle.theory.specs.declared.Command.{Command}
-use Rattle.theory.proofs.Inside.{Inside}
-use Rattle.theory.proofs.machine.Growth.{Puts, round-step, Set, set-then}
+use Rattle.theory.proofs.machine.Growth.{Puts, round-step, set-then}
 use Rattle.scan_round.specs.Turns.{commands}
 use Rattle.scan_start.specs.Starts.{Low}
 

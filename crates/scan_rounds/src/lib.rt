@@ -3,7 +3,7 @@ ghost use mathlib.Core.Path.{_≡_};
 ghost use Prim.Native.Nat.{_≤_};
 ghost use lib.ListN.{length};
 ghost use Rattle.theory.specs.Scans.{rounds};
-ghost use Rattle.theory.proofs.Inside.{Inside};
+ghost use Rattle.theory.specs.Inside.{Inside};
 ghost use Rattle.scan_start.specs.Starts.{Low};
 ghost use Rattle.scan_round.specs.Turns.{commands};
 use scan_round::round;

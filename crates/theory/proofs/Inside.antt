@@ -1,22 +1,13 @@
--- Words whose two ends are nodes below n: what the loops over links ask of a net.
+-- The ends of words that stand inside a net: one word, a word at a place, and all words of a legal list.
 use Prim.Native.Nat.{ℕ, zero, suc, _+_, _<_}
-use mathlib.Core.Path.{refl, subst}
+use mathlib.Core.Path.{refl}
 use mathlib.Core.Bool.{Bool, true, false}
 use mathlib.Core.List.{List, [], _∷_, List·Memᴰ, List·Memᴰ·head, List·Memᴰ·tail}
 use native.Mathlib.Nat.{le-of-suc-le-suc, not-suc-le-zero}
 use lib.ListN.{length, getD}
-use Rattle.theory.specs.Words.{tailOf, headOf}
-use Rattle.theory.specs.Nets.{Kind, Links, LegalWords, Legal}
+use Rattle.theory.specs.Nets.{LegalWords}
+use Rattle.theory.specs.Inside.{Ends, Inside}
 use Rattle.theory.specs.Marks.{near, far}
-
--- Both ends of a word are nodes.
-pub record Ends (n w : ℕ) : Type 0 where
-  pub tail-in : tailOf w < n
-  pub head-in : headOf w < n
-
--- So are those of every word of a list.
-abbrev pub Inside : ℕ → List ℕ → Type 0
-Inside n ws = (w : ℕ) → List·Memᴰ w ws → Ends n w
 
 pub near-in : (atHead : Bool) {n w : ℕ} → Ends n w → near atHead w < n
 near-in true e = e .head-in
@@ -43,10 +34,3 @@ inside-at ws e i l = e (getD ws i 0) (at-member ws i l)
 
 pub legal-inside : (o k : ℕ) (ws : List ℕ) → LegalWords o k ws → Inside (o + k) ws
 legal-inside o k ws l w h = record { tail-in = l w h .tail; head-in = l w h .head .high }
-
--- The statements of legal words are legal.
-pub legal-links : (o k : ℕ) (ws : List ℕ) → LegalWords o k ws → Legal o k (Links ws)
-legal-links o k ws l = record {
-  tail = λ x y s h. rw (← h .tail) (l (h .it) (h .listed) .tail);
-  head = λ x y s h. subst (Kind o k) (h .head) (l (h .it) (h .listed) .head);
-}

@@ -1,4 +1,5 @@
 pub mod Inside
+pub mod Legal
 pub mod support
 pub mod machine
 pub mod completion

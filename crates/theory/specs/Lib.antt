@@ -2,7 +2,9 @@ pub mod Words
 pub mod Nets
 pub mod Support
 pub mod Paths
+pub mod Inside
 pub mod Marks
+pub mod Growth
 pub mod Scans
 pub mod Downscan
 pub mod Completion

@@ -22,6 +22,10 @@ pub record Links (ws : List ℕ) (x y : ℕ) (s : Sign) : Type 0 where
   pub head : headOf it ≡ y
   pub sign : parity it ≡ signNumber s
 
+-- Every word of the one list stands in the other.
+abbrev pub AllIn : List ℕ → List ℕ → Type 0
+AllIn ws vs = (w : ℕ) → List·Memᴰ w ws → List·Memᴰ w vs
+
 -- A legal word: its tail is a node and its head a kind.
 pub record LegalWord (o k w : ℕ) : Type 0 where
   pub tail : tailOf w < o + k
@@ -36,8 +40,3 @@ pub record Net (o k : ℕ) (ws : List ℕ) : Type 0 where
   pub few : o + k ≤ nodeLimit
   pub short : length ws ≤ wordLimit
   pub legal : LegalWords o k ws
-
--- The same as `LegalWords` of a set of statements: tails are nodes and heads kinds.
-pub record Legal (o k : ℕ) (L : Statements) : Type 0 where
-  pub tail : (x y : ℕ) (s : Sign) → L x y s → x < o + k
-  pub head : (x y : ℕ) (s : Sign) → L x y s → Kind o k y

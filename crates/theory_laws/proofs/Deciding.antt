@@ -1,14 +1,11 @@
--- Tests that decide a statement: they pass exactly if it holds.
+-- Which tests decide a statement: comparisons, and what is built from tests that do.
 use Prim.Native.Nat.{ℕ, _≤_, _<_}
 use mathlib.Core.Path.{_≡_, refl, sym}
 use mathlib.Core.Bool.{Bool, true, false, _&&_, _||_, false≢true}
 use mathlib.Core.Logic.{_⊎_, inl, inr, _↔_, ⊎-elim}
 use lib.Dec.{eqb, ltb, leb}
 use borrow.Author.Tests.{eqb-true, eq-eqb, ltb-true, lt-ltb, leb-true, le-leb}
-
--- The test passes exactly if P holds.
-abbrev pub Decides : Bool → Type 0 → Type 0
-Decides b P = (b ≡ true) ↔ P
+use Rattle.theory_laws.specs.Deciding.{Decides}
 
 pub decides-equal : (a b : ℕ) → Decides (eqb a b) (a ≡ b)
 decides-equal a b = (eqb-true a b, eq-eqb a b)

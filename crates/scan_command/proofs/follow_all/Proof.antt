@@ -5,8 +5,9 @@ use borrow.Author.Needs.{needs}
 use native.Mathlib.Omega.{arith}
 use lib.ListN.{length, drop}
 use Rattle.theory.specs.Marks.{links}
+use Rattle.theory.specs.Growth.{Set, kept}
 use Rattle.theory.proofs.Inside.{inside-at}
-use Rattle.theory.proofs.machine.Growth.{Set, kept, set-then}
+use Rattle.theory.proofs.machine.Growth.{set-then}
 use Rattle.scan_command.proofs.Links.{links-go, links-end}
 use Rattle.scan_command.proofs.follow_all.Statement.{statement}
 use Rattle.scan_command.proofs.follow_all.Tie as tie

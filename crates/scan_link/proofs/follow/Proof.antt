@@ -3,7 +3,7 @@ use borrow.Author.Needs.{needs}
 use borrow.Author.Tests.{not-true, not-false}
 use mathlib.Core.Path.{sym}
 use native.Mathlib.Omega.{arith}
-use Rattle.theory.proofs.machine.Growth.{kept}
+use Rattle.theory.specs.Growth.{kept}
 use Rattle.theory.proofs.Inside.{near-in, far-in}
 use Rattle.scan_link.proofs.Following.{follow-other, follow-off, follow-had, follow-new, follow-more}
 use Rattle.scan_link.proofs.follow.Statement.{statement}

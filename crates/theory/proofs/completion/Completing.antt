@@ -12,7 +12,7 @@ use Rattle.theory.specs.Nets.{Kind, Links, Net}
 use Rattle.theory.specs.Support.{Supported}
 use Rattle.theory.specs.Marks.{T, F, has, markerOf, At}
 use Rattle.theory.specs.Completion.{Ascending, Lists, fullMarks, cell, row, rows, complete}
-use Rattle.theory.proofs.Inside.{legal-links}
+use Rattle.theory.proofs.Legal.{legal-links}
 use Rattle.theory.proofs.support.Joining.{ends}
 use Rattle.theory.proofs.machine.Bounds.{forward-done}
 use Rattle.theory.proofs.machine.Sides.{forward-exact}

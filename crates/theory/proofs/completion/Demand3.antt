@@ -11,7 +11,7 @@ use Rattle.theory.specs.Nets.{Kind, Links, LegalWords, Net}
 use Rattle.theory.specs.Support.{Supported, linked}
 use Rattle.theory.specs.Marks.{has, markerOf, At}
 use Rattle.theory.specs.Completion.{Ascending, Lists, fullMarks, complete}
-use Rattle.theory.proofs.Inside.{legal-links}
+use Rattle.theory.proofs.Legal.{legal-links}
 use Rattle.theory.proofs.support.Joining.{Sub, Join, into, monotone, beside, ends, elsewhere}
 use Rattle.theory.proofs.completion.Ascending.{tail-word, head-word, parity-word, sign-word, sign-at-number}
 use Rattle.theory.proofs.completion.Completing.{lists-unique, complete-lists, full-exact}

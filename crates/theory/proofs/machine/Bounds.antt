@@ -10,9 +10,11 @@ use Rattle.theory_laws.proofs.Booleans.{contradiction, not-so}
 use Rattle.theory.specs.Nets.{LegalWords}
 use Rattle.theory.specs.Marks.{T, U, has, mark, blank, round, forward, kindly, forwardStart, kindStart}
 use Rattle.theory.specs.Scans.{same, rounds, Count, forwardScan, kindScan}
+use Rattle.theory.specs.Inside.{Inside}
+use Rattle.theory.specs.Growth.{size, Set, kept, more}
 use Rattle.theory.specs.declared.Command.{Command}
-use Rattle.theory.proofs.Inside.{Inside, legal-inside}
-use Rattle.theory.proofs.machine.Growth.{size, Set, kept, more, ScanStep, Puts, mark-more, mark-step, round-step, size-low}
+use Rattle.theory.proofs.Inside.{legal-inside}
+use Rattle.theory.proofs.machine.Growth.{ScanStep, Puts, mark-more, mark-step, round-step, size-low}
 use Rattle.theory.proofs.machine.Commands.{mark-at}
 use Rattle.theory.proofs.machine.Soundness.{after-step}
 use Rattle.theory.proofs.machine.Rounds.{same-refl, rounds-none, rounds-last, rounds-more}

@@ -11,8 +11,9 @@ use lib.Seq.{getD-set-same, getD-set-other}
 use Rattle.theory_laws.proofs.Booleans.{or-assoc, or-false}
 use Rattle.theory_laws.proofs.Bits.{bit-or, bit-power}
 use Rattle.theory.specs.Marks.{has, with, mark, far, fires, link, links, command}
+use Rattle.theory.specs.Inside.{Inside}
 use Rattle.theory.specs.declared.Command.{Command}
-use Rattle.theory.proofs.Inside.{Inside, far-in, inside-first, inside-rest}
+use Rattle.theory.proofs.Inside.{far-in, inside-first, inside-rest}
 
 -- The markers of a byte that got one.
 pub has-with : (j k b : ℕ) → has j (with k b) ≡ (has j b || eqb j k)

@@ -9,8 +9,9 @@ use lib.ListN.{length, getD, List·getD-append}
 use lib.Seq.{set-append-left}
 use Rattle.theory.specs.Marks.{with, mark, near, far, fires, link, links, command, round}
 use Rattle.theory.specs.Scans.{same, Scan, rounds}
+use Rattle.theory.specs.Inside.{Ends, Inside}
 use Rattle.theory.specs.declared.Command.{Command}
-use Rattle.theory.proofs.Inside.{Ends, Inside, near-in, far-in, inside-first, inside-rest}
+use Rattle.theory.proofs.Inside.{near-in, far-in, inside-first, inside-rest}
 use Rattle.theory.proofs.machine.Commands.{link-length}
 use Rattle.theory.proofs.machine.Growth.{Puts, command-step, round-step}
 use Rattle.theory.proofs.machine.Rounds.{same-refl, rounds-none, rounds-last, rounds-more}

@@ -1,4 +1,4 @@
--- Marks only grow: the number of marks, and what a step of a scan keeps.
+-- Marks only grow: how one mark changes their number, and what a step of a scan keeps.
 use Prim.Native.Nat.{ℕ, zero, suc, _+_, _*_, _^_, _<_, _≤_, zero-le, suc-le-suc}
 use mathlib.Core.Path.{_≡_, refl, sym, _∙_}
 use mathlib.Core.Bool.{Bool, true, false, cond, _||_}
@@ -14,18 +14,10 @@ use lib.Count.{ones, ones-le}
 use lib.Pow.{pow-lt}
 use Rattle.theory_laws.proofs.Bits.{or-had, ones-new}
 use Rattle.theory.specs.Marks.{has, with, mark, far, fires, link, links, command, round}
+use Rattle.theory.specs.Inside.{Ends, Inside}
+use Rattle.theory.specs.Growth.{size, Set, kept, more}
 use Rattle.theory.specs.declared.Command.{Command}
-use Rattle.theory.proofs.Inside.{Ends, Inside, far-in, inside-first, inside-rest}
-
--- The number of marks.
-unfoldable pub size : List ℕ → ℕ
-size [] = 0
-size (b ∷ m) = ones b + size m
-
--- What a flag says of the marks before and after: false, nothing was set; true, something was.
-pub data Set : Bool → List ℕ → List ℕ → Type 0 where
-  kept : {m : List ℕ} → Set false m m
-  more : {m m′ : List ℕ} → size m < size m′ → Set true m m′
+use Rattle.theory.proofs.Inside.{far-in, inside-first, inside-rest}
 
 pub set-then : {f g : Bool} {a b c : List ℕ} → Set f a b → Set g b c → Set (f || g) a c
 set-then kept kept = kept

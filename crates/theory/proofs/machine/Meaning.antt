@@ -11,9 +11,11 @@ use Rattle.theory.specs.Support.{Supported}
 use Rattle.theory.specs.Paths.{Crossing}
 use Rattle.theory.specs.Marks.{T, F, U, forward, kindly, round, forwardStart, kindStart, At}
 use Rattle.theory.specs.Scans.{after}
+use Rattle.theory.specs.Inside.{Inside}
 use Rattle.theory.proofs.support.Reach.{Up, here, step, Apart, trans, turn, ends-in, supported-is-reached}
 use Rattle.theory.proofs.support.Joining.{ends}
-use Rattle.theory.proofs.Inside.{Inside, legal-inside, legal-links}
+use Rattle.theory.proofs.Inside.{legal-inside}
+use Rattle.theory.proofs.Legal.{legal-links}
 use Rattle.theory.proofs.machine.Soundness.{Within, Follows, Every, quiet-closed, after-long, after-keeps, sound}
 use Rattle.theory.proofs.machine.Starts.{forward-long, kind-long, forward-within, kind-within, forward-has, kind-has-T, kind-has-U, forward-puts-8, kindly-puts-8}
 

@@ -2,24 +2,21 @@
 use Prim.Native.Nat.{ℕ, zero, suc, _+_, _≤_, _<_}
 use mathlib.Core.Path.{_≡_, refl, sym, _∙_, ap}
 use mathlib.Core.Bool.{Bool, true, false, _||_}
-use mathlib.Core.List.{List, [], _∷_, List·Memᴰ}
+use mathlib.Core.List.{List, [], _∷_}
 use native.Mathlib.Omega.{arith}
 use lib.ListN.{length, getD}
 use lib.Seq.{ext-getD}
 use Rattle.theory_laws.proofs.Booleans.{same-test}
 use Rattle.theory_laws.proofs.Bits.{bits-same}
+use Rattle.theory.specs.Nets.{AllIn}
 use Rattle.theory.specs.Marks.{has, command, round}
 use Rattle.theory.specs.Scans.{same, rounds}
+use Rattle.theory.specs.Inside.{Inside}
 use Rattle.theory.specs.declared.Command.{Command}
-use Rattle.theory.proofs.Inside.{Inside}
 use Rattle.theory.proofs.machine.Growth.{ScanStep, Puts, command-step, round-step}
 use Rattle.theory.proofs.machine.Commands.{any, hits, command-at}
 use Rattle.theory.proofs.machine.Soundness.{any-some, any-of}
 use Rattle.theory.proofs.machine.Rounds.{rounds-none, rounds-last, rounds-more}
-
--- Every word of the one list stands in the other.
-abbrev pub AllIn : List ℕ → List ℕ → Type 0
-AllIn ws vs = (w : ℕ) → List·Memᴰ w ws → List·Memᴰ w vs
 
 module _ (n : ℕ) (ws vs : List ℕ) (e : Inside n ws) (d : Inside n vs) (to : AllIn ws vs) (from : AllIn vs ws) where
   any-same : (p : ℕ → Bool) → any p ws ≡ any p vs

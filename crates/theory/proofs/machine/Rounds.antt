@@ -10,8 +10,8 @@ use lib.Dec.{eqb}
 use Rattle.theory_laws.proofs.Booleans.{and-left, and-right, not-so, contradiction}
 use Rattle.theory.specs.Marks.{round}
 use Rattle.theory.specs.Scans.{same, rounds}
+use Rattle.theory.specs.Growth.{size, Set, kept, more}
 use Rattle.theory.specs.declared.Command.{Command}
-use Rattle.theory.proofs.machine.Growth.{size, Set, kept, more}
 
 pub same-refl : (m : List ℕ) → same m m ≡ true
 unfolding same

@@ -12,8 +12,8 @@ use Rattle.theory.specs.Words.{Sign, signNumber, parity, signAt}
 use Rattle.theory.specs.Nets.{Statements, Links}
 use Rattle.theory.specs.Marks.{At, has, near, far, fires, command, round}
 use Rattle.theory.specs.Scans.{after}
+use Rattle.theory.specs.Inside.{Inside}
 use Rattle.theory.specs.declared.Command.{Command}
-use Rattle.theory.proofs.Inside.{Inside}
 use Rattle.theory.proofs.machine.Growth.{ScanStep, Puts, step-none, step-then, command-step, round-step}
 use Rattle.theory.proofs.machine.Commands.{any, hits, command-at}
 

@@ -16,8 +16,9 @@ use Rattle.theory.specs.Paths.{lastOf, Shows}
 use Rattle.theory.specs.Reasons.{written, never}
 use Rattle.theory.specs.Searches.{distances, reasonStates, reasonList}
 use Rattle.theory.specs.Checks.{Passes, allSteps, goesWith, passes}
-use Rattle.theory.proofs.Inside.{legal-links}
-use Rattle.theory_laws.proofs.Deciding.{Decides, decides-equal, decides-below, decides-both, decides-same}
+use Rattle.theory.proofs.Legal.{legal-links}
+use Rattle.theory_laws.specs.Deciding.{Decides}
+use Rattle.theory_laws.proofs.Deciding.{decides-equal, decides-below, decides-both, decides-same}
 use Rattle.theory.proofs.reason.Steps.{all-steps-exactly}
 use Rattle.theory.proofs.reason.Repeats.{strict-shows}
 use Rattle.theory.proofs.reason.Reason.{reason-shortest}

@@ -10,7 +10,7 @@ use Rattle.theory.specs.Words.{Sign, is, isnt}
 use Rattle.theory.specs.Nets.{Kind, Links, Net}
 use Rattle.theory.specs.Reasons.{Moves, Route, goal, never, Distance, reached, lost}
 use Rattle.theory.specs.Searches.{Arc, arcs, levels, distances}
-use Rattle.theory.proofs.Inside.{legal-links}
+use Rattle.theory.proofs.Legal.{legal-links}
 use Rattle.theory.proofs.reason.Levels.{Among}
 use Rattle.theory.proofs.reason.Ending.{levels-length, levels-right, quiet-stays}
 use Rattle.theory.proofs.reason.Moves.{arcs-moves, moves-arcs, moves-in}

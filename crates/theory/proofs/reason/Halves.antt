@@ -5,10 +5,10 @@ use mathlib.Core.List.{List, [], _∷_}
 use native.Mathlib.Omega.{arith}
 use lib.ListN.{getD}
 use Rattle.theory.specs.Words.{Sign, is, isnt, signNumber}
-use Rattle.theory.specs.Nets.{Kind, Links, Legal, Net}
+use Rattle.theory.specs.Nets.{Kind, Links, Net}
 use Rattle.theory.specs.Reasons.{Moves, up, across, down, Route, goal, never, Distance, reached, lost}
 use Rattle.theory.specs.Searches.{distances}
-use Rattle.theory.proofs.Inside.{legal-links}
+use Rattle.theory.proofs.Legal.{Legal, legal-links}
 use Rattle.theory.proofs.reason.Moves.{crossing-in}
 use Rattle.theory.proofs.reason.Distances.{distances-right}
 

@@ -5,10 +5,11 @@ use mathlib.Core.List.{List, [], _∷_, List·Memᴰ, List·Memᴰ·head, List·
 use mathlib.Core.Logic.{_⊎_, inl, inr, ⊎-elim}
 use native.Mathlib.Omega.{arith}
 use Rattle.theory.specs.Words.{Sign, is, isnt, signNumber, tailOf, headOf, parity}
-use Rattle.theory.specs.Nets.{Statements, Links, Legal}
+use Rattle.theory.specs.Nets.{Statements, Links}
 use Rattle.theory.specs.Paths.{Crossing}
 use Rattle.theory.specs.Reasons.{Moves, up, across, down}
 use Rattle.theory.specs.Searches.{Arc, arc, arcsOf, arcs}
+use Rattle.theory.proofs.Legal.{Legal}
 use Rattle.theory.proofs.reason.Levels.{Among}
 
 from-is : {e f : Arc} → e ≡ f → e .from ≡ f .from

@@ -6,11 +6,11 @@ use mathlib.Core.Logic.{_↔_}
 use native.Mathlib.Omega.{arith}
 use lib.ListN.{length, getD, length-map}
 use Rattle.theory.specs.Words.{Sign}
-use Rattle.theory.specs.Nets.{Kind, Links, Net, Legal}
+use Rattle.theory.specs.Nets.{Kind, Links, Net}
 use Rattle.theory.specs.Support.{Supported}
 use Rattle.theory.specs.Reasons.{coded, written, Shortest, Moves, Route, goal, never, Distance, reached, lost}
 use Rattle.theory.specs.Searches.{arc, arcs, distances, nodeOf, reasonStates, reasonList}
-use Rattle.theory.proofs.Inside.{legal-links}
+use Rattle.theory.proofs.Legal.{Legal, legal-links}
 use Rattle.theory.proofs.reason.Levels.{Among}
 use Rattle.theory.proofs.reason.Best.{Best, descend-length, descend-best}
 use Rattle.theory.proofs.reason.Moves.{arcs-moves, moves-arcs}

@@ -5,9 +5,10 @@ use mathlib.Core.List.{List, [], _∷_, _++_, map}
 use native.Mathlib.Omega.{arith}
 use lib.ListN.{length, length-append, length-map}
 use Rattle.theory.specs.Words.{Sign, is, isnt}
-use Rattle.theory.specs.Nets.{Statements, Legal}
+use Rattle.theory.specs.Nets.{Statements}
 use Rattle.theory.specs.Paths.{lastOf}
 use Rattle.theory.specs.Reasons.{FirstLinks, SecondLinks, Strict, coded, Moves, up, across, down, Route, goal}
+use Rattle.theory.proofs.Legal.{Legal}
 use Rattle.theory.proofs.reason.Moves.{crossing-in}
 
 module _ (n : ℕ) (L : Statements) where

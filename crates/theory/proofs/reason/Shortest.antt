@@ -5,10 +5,11 @@ use mathlib.Core.List.{List}
 use native.Mathlib.Omega.{arith}
 use lib.ListN.{length}
 use Rattle.theory.specs.Words.{Sign}
-use Rattle.theory.specs.Nets.{Statements, Kind, Legal}
+use Rattle.theory.specs.Nets.{Statements, Kind}
 use Rattle.theory.specs.Paths.{Shows}
 use Rattle.theory.specs.Reasons.{Strict, coded, Before, Shortest, Moves, Route, goal}
 use Rattle.theory.specs.Searches.{reasonList}
+use Rattle.theory.proofs.Legal.{Legal}
 use Rattle.theory.proofs.reason.Best.{Best, best-unique}
 use Rattle.theory.proofs.reason.Routes.{coded-length, strict-route, route-strict}
 use Rattle.theory.proofs.reason.Repeats.{shows-strict}

@@ -12,7 +12,8 @@ use Rattle.theory.specs.Words.{Sign, is, isnt, signNumber, tailOf, headO
 use Rattle.theory.specs.Nets.{Links}
 use Rattle.theory.specs.Paths.{Step, lastOf, First, Crossing, Second}
 use Rattle.theory.specs.Checks.{listed, stepsTo, stepAt, allSteps}
-use Rattle.theory_laws.proofs.Deciding.{Decides, decides-equal, decides-below, decides-most, decides-both, decides-either, decides-same}
+use Rattle.theory_laws.specs.Deciding.{Decides}
+use Rattle.theory_laws.proofs.Deciding.{decides-equal, decides-below, decides-most, decides-both, decides-either, decides-same}
 
 -- A word of the list says the statement exactly if the net links it.
 pub listed-exactly : (x y : ℕ) (s : Sign) (ws : List ℕ) → Decides (listed x y (signNumber s) ws) (Links ws x y s)

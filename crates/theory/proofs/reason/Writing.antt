@@ -6,9 +6,10 @@ use native.Mathlib.Omega.{arith}
 use lib.ListN.{length, take, drop}
 use lib.Seq.{take-append-seam, drop-append-seam}
 use Rattle.theory.specs.Words.{Sign, is, isnt}
-use Rattle.theory.specs.Nets.{Statements, Legal}
+use Rattle.theory.specs.Nets.{Statements}
 use Rattle.theory.specs.Reasons.{FirstLinks, Strict, coded, written}
 use Rattle.theory.specs.Searches.{firsts, nodeOf, reasonList}
+use Rattle.theory.proofs.Legal.{Legal}
 use Rattle.theory.proofs.reason.Routes.{coded-length}
 use Rattle.theory.proofs.reason.States.{firsts-first, firsts-second, node-first, node-second}
 

@@ -4,9 +4,10 @@ use mathlib.Core.Path.{_≡_, _∙_}
 use mathlib.Core.Logic.{_⊎_, inl, inr, _↔_, ⊎-elim}
 use native.Mathlib.Omega.{arith}
 use Rattle.theory.specs.Words.{Sign, is, isnt}
-use Rattle.theory.specs.Nets.{Statements, Kind, Legal}
+use Rattle.theory.specs.Nets.{Statements, Kind}
 use Rattle.theory.specs.Support.{Supported, linked, r1, r2, r3, r4, r5}
 use Rattle.theory.specs.Paths.{Crossing}
+use Rattle.theory.proofs.Legal.{Legal}
 use Rattle.theory.proofs.support.Smallest.{smallest}
 use Rattle.theory.proofs.support.Reach.{Up, here, step, Reached, supported-is-reached}
 

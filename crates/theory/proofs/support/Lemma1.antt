@@ -4,9 +4,10 @@ use mathlib.Core.Path.{_≡_, refl, subst, sym}
 use mathlib.Core.List.{List, [], _∷_, _++_}
 use mathlib.Core.Logic.{inl, inr, _↔_}
 use Rattle.theory.specs.Words.{Sign, is, isnt}
-use Rattle.theory.specs.Nets.{Statements, Legal}
+use Rattle.theory.specs.Nets.{Statements}
 use Rattle.theory.specs.Support.{Supported}
 use Rattle.theory.specs.Paths.{Step, lastOf, First, Second, Shows}
+use Rattle.theory.proofs.Legal.{Legal}
 use Rattle.theory.proofs.support.Reach.{Up, here, step, Reached, trans, supported-is-reached}
 
 module _ (o k : ℕ) (L : Statements) where

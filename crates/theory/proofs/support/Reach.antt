@@ -5,9 +5,10 @@ use mathlib.Core.Logic.{_⊎_, inl, inr, _↔_, ⊎-swap}
 use native.Mathlib.Omega.{arith}
 use native.Mathlib.Decide.{decLt}
 use Rattle.theory.specs.Words.{Sign, is, isnt}
-use Rattle.theory.specs.Nets.{Statements, Kind, Legal}
+use Rattle.theory.specs.Nets.{Statements, Kind}
 use Rattle.theory.specs.Support.{Closed, Supported, linked, r1, r2, r3, r4, r5}
 use Rattle.theory.specs.Paths.{Crossing}
+use Rattle.theory.proofs.Legal.{Legal}
 use Rattle.theory.proofs.support.Smallest.{smallest}
 
 -- x reaches y over → links, in any number of steps, none included.
