@@ -1,5 +1,4 @@
 // The number and the values of an answer of the proved operations.
-use net::Reply;
 use netfile::Contents;
 use second::Reply;
 
@@ -22,7 +21,7 @@ pub fn narrow(size: usize) -> u32 {
 }
 
 // The reply that an exported function gives.
-pub fn reply_given(given: Reply) -> Reply {
+pub fn reply_given(given: net::Reply) -> Reply {
     reply(given.number, given.first, given.second)
 }
 
