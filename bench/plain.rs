@@ -8,6 +8,10 @@ use crate::nets::{head_of, tail_of, WORD_LIMIT};
 const NODE_LIMIT: usize = 1024;
 const NO_WAY: u16 = 65_535;
 
+/// Why a word is illegal; the tail is looked at first.
+const CAUSE_TAIL: u32 = 1;
+const CAUSE_HEAD: u32 = 2;
+
 const T: u8 = 1;
 const F: u8 = 2;
 
@@ -122,9 +126,16 @@ impl<'a> Net<'a> {
         if words.len() > WORD_LIMIT {
             return refused(2);
         }
+        let cause = |word: u32| {
+            if tail_of(word) >= nodes {
+                CAUSE_TAIL
+            } else {
+                CAUSE_HEAD
+            }
+        };
         let legal = |word: u32| tail_of(word) < nodes && (objects..nodes).contains(&head_of(word));
         match words.iter().position(|&word| !legal(word)) {
-            Some(index) => Err(Answer::new(3, index as u32, 0)),
+            Some(index) => Err(Answer::new(3, index as u32, cause(words[index]))),
             None => Ok(Net {
                 objects,
                 nodes,

@@ -77,6 +77,10 @@ extern "C" {
 #define STRUMELKA_NUMBER_NOTHING_FOUND 7u
 #define STRUMELKA_NUMBER_SHORT_LIST 8u
 
+/* Why a word is illegal; the tail is looked at first. */
+#define STRUMELKA_CAUSE_TAIL 1u /* its tail is no node */
+#define STRUMELKA_CAUSE_HEAD 2u /* its head is no kind */
+
 /* What every function answers: the number and up to two values. A value that a line below does not mention is 0. */
 struct strumelka_answer {
     uint32_t number;
@@ -84,12 +88,19 @@ struct strumelka_answer {
     uint32_t second;
 };
 
-/* The check of a net, with which every other function begins.
+/* The test of a single word for a net of o objects and k kinds.
+ *   0  a legal word
+ *   1  o + k is over STRUMELKA_NODE_LIMIT, added without wrapping
+ *   3  an illegal word; first = 0; second = STRUMELKA_CAUSE_TAIL or STRUMELKA_CAUSE_HEAD */
+struct strumelka_answer strumelka_check_word(uint32_t o, uint32_t k, uint32_t word);
+
+/* The check of a net, with which every function below begins.
  *   0  a legal net; first = its nodes, o + k
  *   1  o + k is over STRUMELKA_NODE_LIMIT, added without wrapping
  *   2  words_len is over STRUMELKA_WORD_LIMIT
- *   3  some word's tail is no node or its head no kind; first = the index of the first such word
- * In every other function 1, 2 and 3 mean the same, with the same value, and all buffers are as they were. */
+ *   3  some word's tail is no node or its head no kind; first = the index of the first such word,
+ *      second = its cause, STRUMELKA_CAUSE_TAIL or STRUMELKA_CAUSE_HEAD
+ * In every function below 1, 2 and 3 mean the same, with the same values, and all buffers are as they were. */
 struct strumelka_answer strumelka_check_net(
     uint32_t o, uint32_t k, const uint32_t *words, size_t words_len);
 

@@ -4,7 +4,7 @@
 use crate::call::run;
 use crate::case::Case;
 use crate::fields::Field;
-use crate::nets::Net;
+use crate::nets::{draw_illegal, word, Net};
 use crate::operations::Operation;
 use crate::paths::draw_path;
 use crate::random::Random;
@@ -33,6 +33,7 @@ fn draw_field(random: &mut Random, net: &Net, field: Field) -> Vec<u32> {
         Field::Objects => vec![net.o],
         Field::Kinds => vec![net.k],
         Field::Words => net.words.clone(),
+        Field::Word => vec![draw_word(random, net)],
         Field::Node => vec![draw_node(random, net)],
         Field::Kind => vec![draw_kind(random, net)],
         Field::Sign => vec![draw_sign(random)],
@@ -100,6 +101,15 @@ fn draw_kind(random: &mut Random, net: &Net) -> u32 {
         return random.below(net.o as usize) as u32;
     }
     draw_wrong(random, net)
+}
+
+/// A legal word, if the net has a kind; and as often a word that is illegal, or any.
+fn draw_word(random: &mut Random, net: &Net) -> u32 {
+    if net.k == 0 || random.chance(50) {
+        return draw_illegal(random, net);
+    }
+    let head = net.o as usize + random.below(net.k as usize);
+    word(random.below(net.nodes()), head, random.below(2))
 }
 
 fn draw_wrong(random: &mut Random, net: &Net) -> u32 {

@@ -5,6 +5,7 @@ pub enum Field {
     Objects,
     Kinds,
     Words,
+    Word,
     Node,
     Kind,
     Sign,
@@ -44,10 +45,11 @@ const fn shape(name: &'static str, field: Field, width: usize, most: usize, lent
     }
 }
 
-static SHAPES: [Shape; 14] = [
+static SHAPES: [Shape; 15] = [
     number("o", Field::Objects),
     number("k", Field::Kinds),
     shape("words", Field::Words, 4, 16_384, false),
+    number("word", Field::Word),
     number("node", Field::Node),
     number("kind", Field::Kind),
     number("sign", Field::Sign),

@@ -10,7 +10,7 @@ use crate::operations::Operation;
 use crate::random::Random;
 use crate::tally::Tally;
 
-/// Every operation of the archive, on nets that are refused for their words and on nets with as many as are allowed.
+/// Every operation of the archive that is lent a net's words, on nets that are refused for their words and on nets with as many as are allowed.
 pub fn calls_at_limit(
     seed: u64,
     operations: &[Operation],
@@ -38,10 +38,15 @@ pub fn calls_at_limit(
 }
 
 fn on_nets(operations: &[Operation]) -> impl Iterator<Item = &Operation> {
-    operations.iter().filter(|it| it.call.is_some())
+    let lent_words = |it: &&Operation| it.fields.contains(&Field::Words);
+    operations
+        .iter()
+        .filter(|it| it.call.is_some())
+        .filter(lent_words)
 }
 
-/// One word too many, with and without too many nodes and an illegal word; and as many as are allowed, the last one illegal.
+/// One word too many, with and without too many nodes and an illegal word; and as many as are allowed, the last one illegal by
+/// its head.
 fn refused_nets(random: &mut Random) -> Vec<(Net, Answer)> {
     let over = random_net(random, 1, 2, WORD_LIMIT + 1, 20);
     let mut both = over.clone();
@@ -55,7 +60,7 @@ fn refused_nets(random: &mut Random) -> Vec<(Net, Answer)> {
         (over, Answer::new(2, 0, 0)),
         (both, Answer::new(1, 0, 0)),
         (illegal, Answer::new(2, 0, 0)),
-        (last, Answer::new(3, WORD_LIMIT as u32 - 1, 0)),
+        (last, Answer::new(3, WORD_LIMIT as u32 - 1, 2)),
     ]
 }
 

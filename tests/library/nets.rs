@@ -171,18 +171,19 @@ fn damage(random: &mut Random, net: &mut Net) {
     }
 }
 
-/// A word that is illegal, or any word: an object as its head, a head or a tail of exactly N or of more.
-fn draw_illegal(random: &mut Random, net: &Net) -> u32 {
+/// A word that is illegal, or any word: an object as its head, a head or a tail of exactly N or of more, both ends wrong.
+pub fn draw_illegal(random: &mut Random, net: &Net) -> u32 {
     let (o, nodes) = (net.o as usize, net.nodes());
     let sign = random.below(2);
     let tail = random.below(nodes);
     let kind = (o + random.below(nodes.saturating_sub(o))).min(1023);
-    match random.below(6) {
+    match random.below(7) {
         0 => word(tail, random.below(o.min(1024)), sign),
         1 => word(tail, nodes.min(1023), sign),
         2 => word(tail, random.within(nodes.min(1023), 1023), sign),
         3 => word(nodes, kind, sign),
         4 => word(random.within(nodes, 2_097_151), kind, sign),
+        5 => word(nodes, random.below(o.min(1024)), sign),
         _ => random.next() as u32,
     }
 }

@@ -31,6 +31,8 @@ struct operation {
 
 /* Name, fields, outcomes, from every node; then the arguments of the C function. */
 #define EXPORTED(_)                                                                 \
+    _(check_word, "o k word", "0 1 3", false,                                       \
+      NUMBER(0), NUMBER(1), NUMBER(2))                                              \
     _(check_net, "o k words", "0 1 2 3", false,                                     \
       NET)                                                                          \
     _(forward_scan, "o k words node budget marks", "0 1 2 3 4 5 6", false,          \

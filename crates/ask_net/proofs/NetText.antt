@@ -18,8 +18,8 @@ module _ (o k : ℕ) (ws : List ℕ) {c : Checked} (e : c ≡ checkNet o k ws) w
   unfolding netText
   net-lines b f = rw (← e, f)
 
-  -- and a refused one its number and index.
+  -- and a refused one its number, the index and the cause.
   pub net-report : (b : List ℕ) {r : Refusal} {given : Reply} → c ≡ checked.Refused r → given ≡ refusalReply r
-      → field netWord (field (decimal (given .number)) (lastField (decimal (given .first)))) ≡ netText o k ws b (checkNet o k ws)
+      → field netWord (field (decimal (given .number)) (field (decimal (given .first)) (lastField (decimal (given .second))))) ≡ netText o k ws b (checkNet o k ws)
   unfolding netText
   net-report b f g = rw (← e, f, g)

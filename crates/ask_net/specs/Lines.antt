@@ -18,7 +18,7 @@ linesOf o k ws zero b = []
 linesOf o k ws (suc j) b =
     lineOf (u16At b 0) (u16At b 2) (questioned o k ws (u16At b 0) (u16At b 2) (blank 1024) .answer) ++ linesOf o k ws j (drop 4 b)
 
--- The text for a net: a line for each question, or its number and index.
+-- The text for a net: a line for each question, or its number, the index and the cause.
 unfoldable pub netText : ℕ → ℕ → List ℕ → List ℕ → Checked → List ℕ
 netText o k ws b (checked.Nodes n) = linesOf o k ws (length b / 4) b
-netText o k ws b (checked.Refused r) = field netWord (field (decimal (refusalReply r .number)) (lastField (decimal (refusalReply r .first))))
+netText o k ws b (checked.Refused r) = field netWord (field (decimal (refusalReply r .number)) (field (decimal (refusalReply r .first)) (lastField (decimal (refusalReply r .second)))))

@@ -1,11 +1,11 @@
-// The text for a net: a line for each question, or its number and index.
+// The text for a net: a line for each question, or its number, the index and the cause.
 ghost use Prim.Native.Nat.{_*_, _/_, _≤_};
 ghost use lib.ListN.{length};
 ghost use Rattle.text_field.specs.Writing.{Wrote};
 ghost use Rattle.net.specs.Table.{checkNet};
 ghost use Rattle.ask_net.specs.Lines.{linesOf, netText};
 use ask_line::put_line;
-use ask_line::put_report;
+use ask_line::put_refused_net;
 use net::Checked;
 use net::check_net;
 use net::refusal_given;
@@ -30,9 +30,9 @@ fn put_lines(o: u32, k: u32, words: &[u32], questions: &[u8], text: &mut [u8]) -
     at
 }
 
-// The text for a net: a line for each question, or its number and index. Gives how many bytes that is.
+// The text for a net: a line for each question, or its number, the index and the cause. Gives how many bytes that is.
 pub fn answer_net(o: u32, k: u32, words: &[u32], questions: &[u8], text: &mut [u8]) -> usize
-    requires { ⌜ (26 ≤ length (now text)) × (length (now questions) / 4 * 31 ≤ length (now text)) ⌝ }
+    requires { ⌜ (37 ≤ length (now text)) × (length (now questions) / 4 * 31 ≤ length (now text)) ⌝ }
     ensures { λ r. ⌜ Wrote (netText o k (now (words .entry)) (now (questions .entry)) (checkNet o k (now (words .entry)))) (now (text .entry)) (now (text .exit)) r ⌝ }
 {
     let checked = check_net(o, k, words);
@@ -40,7 +40,7 @@ pub fn answer_net(o: u32, k: u32, words: &[u32], questions: &[u8], text: &mut [u
         Checked::Nodes(_) => put_lines(o, k, words, questions, text),
         Checked::Refused(refusal) => {
             let row = refusal_given(refusal);
-            put_report(text, b"net", row.number, row.first)
+            put_refused_net(text, row.number, row.first, row.second)
         }
     }
 }

@@ -66,17 +66,21 @@ pub end-past-four-bytes : textOf (contents 4294967268 4 28 ++ four 1 ++ four 1) 
 unfolding textOf entriesOf entryAt digits
 end-past-four-bytes = refl
 
--- A file without questions whose net is refused: `net`, the number and the index.
-abbrev pub refusedNet : ℕ → ℕ → List ℕ
-refusedNet number index = 110 ∷ 101 ∷ 116 ∷ 32 ∷ (48 + number) ∷ 32 ∷ (48 + index) ∷ 10 ∷ []
+-- A file without questions whose net is refused: `net`, the number, the index and the cause.
+abbrev pub refusedNet : ℕ → ℕ → ℕ → List ℕ
+refusedNet number index cause = 110 ∷ 101 ∷ 116 ∷ 32 ∷ (48 + number) ∷ 32 ∷ (48 + index) ∷ 32 ∷ (48 + cause) ∷ 10 ∷ []
 
-pub too-many-nodes : textOf (contents 0 32 0 ++ four 4294967295 ++ four 1) ≡ refusedNet 1 0
+pub too-many-nodes : textOf (contents 0 32 0 ++ four 4294967295 ++ four 1) ≡ refusedNet 1 0 0
 unfolding textOf entriesOf entryAt u32s netText checkNet digits
 too-many-nodes = refl
 
-pub illegal-word : textOf (contents 8 40 0 ++ four 1 ++ four 1 ++ four 2 ++ four 0) ≡ refusedNet 3 1
+pub illegal-word : textOf (contents 8 40 0 ++ four 1 ++ four 1 ++ four 2 ++ four 0) ≡ refusedNet 3 1 2
 unfolding textOf entriesOf entryAt u32s netText checkNet legalPrefix digits
 illegal-word = refl
+
+pub tail-outside : textOf (contents 8 40 0 ++ four 1 ++ four 1 ++ four 2 ++ four 4096) ≡ refusedNet 3 1 1
+unfolding textOf entriesOf entryAt u32s netText checkNet legalPrefix digits
+tail-outside = refl
 
 -- A legal net without questions prints nothing.
 pub no-questions : textOf (contents 4 36 0 ++ four 1 ++ four 1 ++ four 2) ≡ []

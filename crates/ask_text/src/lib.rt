@@ -13,10 +13,11 @@ use netfile::read_bodies;
 use netfile::read_contents;
 use netfile_numbers::read_words;
 use netfile_numbers::u32_at;
+use text_field::LINE_END;
 
 // The text for the bodies of a file. Gives how many bytes that is.
 fn answer_bodies(nodes: &[u8], links: &[u8], questions: &[u8], text: &mut [u8]) -> usize
-    requires { ⌜ (8 ≤ length (now nodes)) × ((length (now links) ≤ fileLimit) × ((26 ≤ length (now text)) × (length (now questions) / 4 * 31 ≤ length (now text)))) ⌝ }
+    requires { ⌜ (8 ≤ length (now nodes)) × ((length (now links) ≤ fileLimit) × ((37 ≤ length (now text)) × (length (now questions) / 4 * 31 ≤ length (now text)))) ⌝ }
     ensures { λ r. ⌜ Wrote (bodiesText (now (nodes .entry)) (now (links .entry)) (now (questions .entry))) (now (text .entry)) (now (text .exit)) r ⌝ }
 {
     let mut words = [0u32; 8192];
@@ -41,6 +42,6 @@ pub fn answer_file(file: &[u8], text: &mut [u8; 262144]) -> usize
             let bodies = read_bodies(file);
             answer_bodies(bodies[0], bodies[1], bodies[2], text)
         }
-        Contents::Malformed(place) => put_report(text, b"file", 9, place),
+        Contents::Malformed(place) => put_report(text, b"file", 9, place, LINE_END),
     }
 }

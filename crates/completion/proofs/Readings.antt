@@ -7,6 +7,7 @@ use Rattle.theory.specs.Scans.{same, rounds}
 use Rattle.theory.specs.Completion.{row, rows, complete}
 use Rattle.theory.specs.NetM.{M}
 use Rattle.net.specs.Legal.{legalPrefix}
+use Rattle.net.specs.declared.Cause.the-variants.{Head}
 use Rattle.net.specs.declared.Refusal.the-variants.{TooManyNodes, IllegalWord, ShortBuffer}
 use Rattle.completion.specs.Table.{completionOutcome, completedBy}
 use Rattle.completion.specs.declared.Completed.the-variants.{Done, Short, Refused}
@@ -61,6 +62,6 @@ pub complete-many : completedBy 4294967295 1 [] [] (7 ∷ []) ≡ completionOutc
 unfolding complete rows row legalPrefix rounds same round command links link mark
 complete-many = refl
 
-pub complete-illegal : completedBy 1 1 (2 ∷ 0 ∷ []) [] (7 ∷ []) ≡ completionOutcome (Refused (IllegalWord 1)) [] (7 ∷ [])
+pub complete-illegal : completedBy 1 1 (2 ∷ 0 ∷ []) [] (7 ∷ []) ≡ completionOutcome (Refused (IllegalWord 1 Head)) [] (7 ∷ [])
 unfolding complete rows row legalPrefix rounds same round command links link mark
 complete-illegal = refl

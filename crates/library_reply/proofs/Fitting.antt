@@ -6,12 +6,14 @@ use mathlib.Core.List.{List}
 use native.Mathlib.Omega.{arith}
 use borrow.Author.Tests.{ltb-true, ltb-false}
 use lib.Dec.{ltb}
-use lib.ListN.{length}
+use lib.ListN.{length, getD}
 use Rattle.theory.specs.Words.{nodeLimit, wordLimit}
-use Rattle.net.specs.Legal.{legalPrefix}
+use Rattle.net.specs.Legal.{legalPrefix, causeOf}
 use Rattle.net.specs.Clauses.{Clause, call}
 use Rattle.net.proofs.OnNet.{byCheck, on-net}
-use Rattle.net.specs.Table.{Reply, reply, netClauses, checkNet, checkedReply, refusalReply}
+use Rattle.net.specs.Table.{Reply, reply, netClauses, checkNet, checkedReply, refusalReply, causeNumber}
+use Rattle.net.specs.declared.Cause.{Cause}
+use Rattle.net.specs.declared.Cause.the-variants.{Tail, Head}
 use Rattle.net.specs.declared.Refusal.{Refusal}
 use Rattle.net.specs.declared.Checked.{Checked}
 use Rattle.net.specs.declared.Checked.the-variants.{Nodes, Refused}
@@ -30,6 +32,11 @@ fits h i = record { first = h; second = i }
 pub bare : {n : ℕ} → Fits (reply n 0 0)
 bare = fits (omega arith) (omega arith)
 
+-- The number of a cause is small.
+pub cause-low : (c : Cause) → causeNumber c < 4294967296
+cause-low Tail = omega arith
+cause-low Head = omega arith
+
 -- Equal answers have one reply, where f gives the replies.
 pub carry-fits : {A : Type 0} (f : A → Reply) {a v : A} → a ≡ v → Fits (f a) → Fits (f v)
 carry-fits {A} f e = subst (λ (u : A). Fits (f u)) e
@@ -42,7 +49,7 @@ module _ (o k : ℕ) (ws : List ℕ) where
       either checkedReply (ltb nodeLimit (o + k)) (λ _. bare)
       (λ few. either checkedReply (ltb wordLimit (length ws)) (λ _. bare)
       (λ short. either checkedReply (ltb (legalPrefix o (o + k) ws) (length ws))
-      (λ stops. fits (omega (arith, ltb-false wordLimit (length ws) short, ltb-true (legalPrefix o (o + k) ws) (length ws) stops)) (omega arith))
+      (λ stops. fits (omega (arith, ltb-false wordLimit (length ws) short, ltb-true (legalPrefix o (o + k) ws) (length ws) stops)) (cause-low (causeOf (o + k) (getD ws (legalPrefix o (o + k) ws) 0))))
       (λ _. fits (omega (arith, ltb-false nodeLimit (o + k) few)) (omega arith))))
 
   -- An operation that passes refusals on has a reply that fits, if it has one for every net.

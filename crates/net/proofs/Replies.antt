@@ -9,6 +9,7 @@ use lib.Dec.{eqb}
 use Rattle.net.specs.Table.{Reply, refusalReply, checkedReply}
 use Rattle.net.specs.declared.Checked.{Checked}
 use Rattle.net.specs.declared.Checked.the-variants.{Nodes, Refused}
+use Rattle.net.specs.declared.Cause.the-variants.{Tail, Head}
 use Rattle.net.specs.declared.Refusal.{Refusal}
 use Rattle.net.specs.declared.Refusal.the-variants.{TooManyNodes, TooManyWords, IllegalWord, BadQuestion, ShortBuffer}
 
@@ -16,7 +17,7 @@ use Rattle.net.specs.declared.Refusal.the-variants.{TooManyNodes, TooMan
 abbrev refusalOf : ℕ → Reply → Refusal
 refusalOf zero r = TooManyNodes
 refusalOf (suc zero) r = TooManyWords
-refusalOf (suc (suc zero)) r = IllegalWord (r .first)
+refusalOf (suc (suc zero)) r = IllegalWord (r .first) (cond (eqb (r .second) 1) Tail Head)
 refusalOf (suc (suc (suc zero))) r = BadQuestion
 refusalOf (suc (suc (suc (suc n)))) r = ShortBuffer
 
@@ -28,7 +29,8 @@ refusalAt r = refusalOf (r .number - 1) r
 reply-tells : (r : Refusal) → (refusalAt (refusalReply r) ≡ r) × (0 < refusalReply r .number) × (refusalReply r .number < 6)
 reply-tells TooManyNodes = (refl, omega arith, omega arith)
 reply-tells TooManyWords = (refl, omega arith, omega arith)
-reply-tells (IllegalWord i) = (refl, omega arith, omega arith)
+reply-tells (IllegalWord i Tail) = (refl, omega arith, omega arith)
+reply-tells (IllegalWord i Head) = (refl, omega arith, omega arith)
 reply-tells BadQuestion = (refl, omega arith, omega arith)
 reply-tells ShortBuffer = (refl, omega arith, omega arith)
 

@@ -3,15 +3,21 @@ use Prim.Native.Nat.{ℕ, _+_}
 use mathlib.Core.Bool.{Bool, _||_}
 use mathlib.Core.List.{List, [], _∷_}
 use lib.Dec.{ltb, leb}
-use lib.ListN.{length}
+use lib.ListN.{length, getD}
 use Rattle.theory.specs.Words.{nodeLimit, wordLimit}
-use Rattle.net.specs.Legal.{legalPrefix}
+use Rattle.net.specs.Legal.{legalPrefix, causeOf}
 use Rattle.net.specs.Clauses.{Clause, clause, call}
+use Rattle.net.specs.declared.Cause.{Cause}
+use Rattle.net.specs.declared.Cause.the-variants.{Tail, Head}
 use Rattle.net.specs.declared.Refusal.{Refusal}
 use Rattle.net.specs.declared.Refusal.the-variants.{TooManyNodes, TooManyWords, IllegalWord, BadQuestion, ShortBuffer}
 use Rattle.net.specs.declared.Reply as struct
 use Rattle.net.specs.declared.Checked.{Checked}
 use Rattle.net.specs.declared.Checked.the-variants.{Nodes, Refused}
+
+-- The refusal of the illegal word w at index i, with its cause.
+abbrev pub illegalAt : ℕ → ℕ → ℕ → Refusal
+illegalAt n i w = IllegalWord i (causeOf n w)
 
 -- Clauses 1, 2 and 3, with which every call on a net begins, where `refused` is what a refusal leaves; then the clauses of the operation. The
 -- sum is one of whole numbers.
@@ -19,7 +25,7 @@ abbrev pub netClauses : {A : Type 0} → (Refusal → A) → ℕ → ℕ → Lis
 netClauses refused o k ws rest =
     clause 1 (ltb nodeLimit (o + k)) (refused TooManyNodes)
     ∷ clause 2 (ltb wordLimit (length ws)) (refused TooManyWords)
-    ∷ clause 3 (ltb (legalPrefix o (o + k) ws) (length ws)) (refused (IllegalWord (legalPrefix o (o + k) ws)))
+    ∷ clause 3 (ltb (legalPrefix o (o + k) ws) (length ws)) (refused (illegalAt (o + k) (legalPrefix o (o + k) ws) (getD ws (legalPrefix o (o + k) ws) 0)))
     ∷ rest
 
 -- The check of a net: these three, or the number of nodes.
@@ -47,11 +53,16 @@ Reply = struct.Reply
 abbrev pub reply : ℕ → ℕ → ℕ → Reply
 reply n a b = record { number = n; first = a; second = b }
 
--- The reply of each refusal.
+-- The number of a cause: 1 for the tail, 2 for the head.
+abbrev pub causeNumber : Cause → ℕ
+causeNumber Tail = 1
+causeNumber Head = 2
+
+-- The reply of each refusal; an illegal word's has its index and its cause.
 abbrev pub refusalReply : Refusal → Reply
 refusalReply TooManyNodes = reply 1 0 0
 refusalReply TooManyWords = reply 2 0 0
-refusalReply (IllegalWord i) = reply 3 i 0
+refusalReply (IllegalWord i c) = reply 3 i (causeNumber c)
 refusalReply BadQuestion = reply 4 0 0
 refusalReply ShortBuffer = reply 5 0 0
 

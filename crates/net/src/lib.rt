@@ -1,14 +1,20 @@
 // A link word's parts, the test of one word, and the check of a net: numbers 1, 2 and 3 of the number table, in that order; the tests of number 4 for a statement; the refusals of numbers 1 to 5, and a reply as a struct.
 ghost use mathlib.Core.Path.{_≡_};
 ghost use Rattle.theory.specs.Words.{tailOf, headOf};
-ghost use Rattle.net.specs.Legal.{legal, legalPrefix};
-ghost use Rattle.net.specs.Table.{checkNet, badPair, badStatement, reply, refusalReply};
+ghost use Rattle.net.specs.Legal.{legal, legalPrefix, causeOf};
+ghost use Rattle.net.specs.Table.{illegalAt, checkNet, badPair, badStatement, reply, causeNumber, refusalReply};
+
+// Why a word is illegal: its tail is outside the net, or else its head is no kind.
+pub enum Cause {
+    Tail,
+    Head,
+}
 
 // The refusals that every operation passes on unchanged: numbers 1 to 5.
 pub enum Refusal {
     TooManyNodes,
     TooManyWords,
-    IllegalWord(u32),
+    IllegalWord(u32, Cause),
     BadQuestion,
     ShortBuffer,
 }
@@ -47,7 +53,7 @@ pub fn head_of(word: u32) -> usize
 }
 
 // Whether a word is legal in a net of `n` nodes, the first `o` of them objects.
-fn is_legal(o: usize, n: usize, word: u32) -> bool
+pub fn is_legal(o: usize, n: usize, word: u32) -> bool
     ensures { λ r. ⌜ r ≡ legal o n word ⌝ }
 {
     let tail = tail_of(word);
@@ -59,6 +65,24 @@ fn is_legal(o: usize, n: usize, word: u32) -> bool
         return false;
     }
     head < n
+}
+
+// Why an illegal word is one: the tail is looked at first.
+fn cause_of(n: usize, word: u32) -> Cause
+    ensures { λ r. ⌜ r ≡ causeOf n word ⌝ }
+{
+    let tail = tail_of(word);
+    if n <= tail {
+        return Cause::Tail;
+    }
+    Cause::Head
+}
+
+// The refusal of an illegal word at the place `index`.
+pub fn refuse_word(n: usize, index: u32, word: u32) -> Refusal
+    ensures { λ r. ⌜ r ≡ illegalAt n index word ⌝ }
+{
+    Refusal::IllegalWord(index, cause_of(n, word))
 }
 
 // How many legal words stand before the first illegal one.
@@ -89,7 +113,7 @@ pub fn check_net(o: u32, k: u32, words: &[u32]) -> Checked
     }
     let i = first_illegal(objects, n, words);
     if i < words.len() {
-        return Checked::Refused(Refusal::IllegalWord(i as u32));
+        return Checked::Refused(refuse_word(n, i as u32, words[i]));
     }
     Checked::Nodes(n)
 }
@@ -130,6 +154,16 @@ pub fn reply_of(number: u32, first: u32, second: u32) -> Reply
     }
 }
 
+// The number of a cause.
+fn cause_number(cause: Cause) -> u32
+    ensures { λ r. ⌜ r ≡ causeNumber cause ⌝ }
+{
+    match cause {
+        Cause::Tail => 1,
+        Cause::Head => 2,
+    }
+}
+
 // The reply of a refusal.
 pub fn refusal_given(refusal: Refusal) -> Reply
     ensures { λ r. ⌜ r ≡ refusalReply refusal ⌝ }
@@ -137,7 +171,7 @@ pub fn refusal_given(refusal: Refusal) -> Reply
     match refusal {
         Refusal::TooManyNodes => reply_of(1, 0, 0),
         Refusal::TooManyWords => reply_of(2, 0, 0),
-        Refusal::IllegalWord(index) => reply_of(3, index, 0),
+        Refusal::IllegalWord(index, cause) => reply_of(3, index, cause_number(cause)),
         Refusal::BadQuestion => reply_of(4, 0, 0),
         Refusal::ShortBuffer => reply_of(5, 0, 0),
     }

@@ -10,6 +10,8 @@ use Rattle.theory.specs.Words.{signAt}
 use Rattle.theory.specs.Completion.{fullMarks, complete}
 use Rattle.theory.specs.Checks.{passes}
 use Rattle.net.specs.Table.{checkNet}
+use Rattle.check_word.specs.Table.{wordTable, checkWord}
+use Rattle.check_word.specs.declared.WordChecked.the-variants.{Legal}
 use Rattle.scan.specs.Table.{forwardScanned, kindScanned}
 use Rattle.question.specs.Table.{questioned}
 use Rattle.clash.specs.Table.{firstBoth, firstClash, clashNodes, clashSearch, nowhere, clashTable, clashDone, clashedReply, clashedBy}
@@ -25,7 +27,7 @@ use Rattle.scan.specs.Table.{scanTable, scanDone}
 use Rattle.question.specs.Table.{questionTable, questionDone}
 use Rattle.netfile.specs.Table.{readFrom, fileTable, fileDone}
 use Rattle.netfile.proofs.Called.{file-called}
-use Rattle.promises.specs.Numbers.{checkedNumber, scanNumber, questionNumber, clashNumber, completionNumber, reasonNumber, verdictNumber, fileNumber}
+use Rattle.promises.specs.Numbers.{wordNumber, checkedNumber, scanNumber, questionNumber, clashNumber, completionNumber, reasonNumber, verdictNumber, fileNumber}
 use Rattle.promises.specs.Engines.{ours}
 use Rattle.promises.specs.Demand1.{Demand1}
 use Rattle.promises.proofs.Deciding.{obeys}
@@ -45,6 +47,10 @@ clash-found o k ws x (suc j) e =
 verdict-done : (q : Bool) → verdictNumber (cond q Holds Fails) ≡ 0
 verdict-done true = refl
 verdict-done false = refl
+
+-- The test of a word obeys its table: numbers 1 and 3, or 0.
+pub word-obeys : (o k w : ℕ) → Obeys wordNumber (wordTable o k w) Legal (checkWord o k w)
+word-obeys o k w = obeys wordNumber _ _ (record { numbered = (refl, (refl, tt)); once = refl; nonzero = refl; zero = λ h. refl }) _ refl
 
 module _ (o k : ℕ) (ws : List ℕ) where
   -- The check of a net obeys its table: numbers 1 to 3, or 0.
@@ -105,6 +111,7 @@ file-obeys s =
 -- Our engine keeps demand 1.
 pub demand-1 : Demand1 ours
 demand-1 = record {
+  wordCheck = word-obeys;
   netCheck = net-obeys;
   forwardScan = forward-obeys;
   kindScan = kind-obeys;

@@ -4,6 +4,8 @@ use Prim.Native.Nat.{ℕ}
 use mathlib.Core.Path.{_≡_, refl, sym, ap, _∙_}
 use mathlib.Core.List.{List, _++_}
 use lib.ListN.{length, drop}
+use Rattle.check_word.specs.Table.{checkWord}
+use Rattle.check_word.specs.declared.WordChecked.{WordChecked}
 use Rattle.net.specs.Table.{checkNet}
 use Rattle.net.specs.declared.Checked.{Checked}
 use Rattle.scan.specs.Table.{ScanOutcome, scanOutcome, forwardScanned, kindScanned}
@@ -79,6 +81,9 @@ module _ (o k : ℕ) (ws : List ℕ) where
   check-unique x y sign list r q e f = both-are r q e f
 
 -- The check of a net, which is lent nothing to write to either.
+pub word-unique : (o k w : ℕ) (r q : WordChecked) → r ≡ checkWord o k w → q ≡ checkWord o k w → r ≡ q
+word-unique o k w r q e f = both-are r q e f
+
 pub net-unique : (o k : ℕ) (ws : List ℕ) (r q : Checked) → r ≡ checkNet o k ws → q ≡ checkNet o k ws → r ≡ q
 net-unique o k ws r q e f = both-are r q e f
 

@@ -4,6 +4,8 @@ use mathlib.Core.Bool.{true, false}
 use mathlib.Core.List.{List}
 use Rattle.promises.specs.Tables.{Obeys}
 use Rattle.net.specs.Table.{netTable, netDone}
+use Rattle.check_word.specs.Table.{wordTable}
+use Rattle.check_word.specs.declared.WordChecked.the-variants.{Legal}
 use Rattle.scan.specs.Table.{scanTable, scanDone}
 use Rattle.question.specs.Table.{questionTable, questionDone}
 use Rattle.theory.specs.Completion.{complete}
@@ -11,10 +13,11 @@ use Rattle.clash.specs.Table.{clashSearch, clashTable, clashDone}
 use Rattle.completion.specs.Table.{completionTable, completionDone}
 use Rattle.reason.specs.Table.{reasonTable, reasonDone}
 use Rattle.reason_check.specs.Table.{checkTable, checkDone}
-use Rattle.promises.specs.Numbers.{checkedNumber, scanNumber, questionNumber, clashNumber, completionNumber, reasonNumber, verdictNumber}
+use Rattle.promises.specs.Numbers.{wordNumber, checkedNumber, scanNumber, questionNumber, clashNumber, completionNumber, reasonNumber, verdictNumber}
 use Rattle.promises.specs.Engines.{Engine}
 
 pub record Demand1 (e : Engine) : Type 0 where
+  pub wordCheck : (o k w : ℕ) → Obeys wordNumber (wordTable o k w) Legal (e .wordCheck o k w)
   pub netCheck : (o k : ℕ) (ws : List ℕ) → Obeys checkedNumber (netTable o k ws) (netDone o k) (e .netCheck o k ws)
   pub forwardScan : (o k : ℕ) (ws : List ℕ) (x budget : ℕ) (m : List ℕ)
       → Obeys scanNumber (scanTable false o k ws x budget m) (scanDone false ws x budget m (o + k)) (e .forwardScan o k ws x budget m)

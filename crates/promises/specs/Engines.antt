@@ -5,6 +5,8 @@ use mathlib.Core.List.{List, _++_}
 use Rattle.theory.specs.Scans.{Scan}
 use Rattle.net.specs.Table.{checkNet}
 use Rattle.net.specs.declared.Checked.{Checked}
+use Rattle.check_word.specs.Table.{checkWord}
+use Rattle.check_word.specs.declared.WordChecked.{WordChecked}
 use Rattle.scan.specs.Table.{ScanOutcome, scanOutcome, forwardScanned, kindScanned}
 use Rattle.scan.specs.declared.Scanned.the-variants as scanned
 use Rattle.question.specs.Table.{QuestionOutcome, questioned}
@@ -14,8 +16,9 @@ use Rattle.reason.specs.Table.{ReasonOutcome, reasoned}
 use Rattle.reason_check.specs.Table.{verdict}
 use Rattle.reason_check.specs.declared.Verdict.{Verdict}
 
--- The eight operations on nets, each over objects, kinds, words, what is asked, and the lent buffers as they are at entry.
+-- The nine operations, the test of a word first, each over objects, kinds, words, what is asked, and the lent buffers as they are at entry.
 pub record Engine : Type 0 where
+  pub wordCheck : ℕ → ℕ → ℕ → WordChecked
   pub netCheck : ℕ → ℕ → List ℕ → Checked
   pub forwardScan : ℕ → ℕ → List ℕ → ℕ → ℕ → List ℕ → ScanOutcome
   pub kindScan : ℕ → ℕ → List ℕ → ℕ → ℕ → List ℕ → ScanOutcome
@@ -28,6 +31,7 @@ pub record Engine : Type 0 where
 -- The engine of the operations' own statements.
 abbrev pub ours : Engine
 ours = record {
+  wordCheck = checkWord;
   netCheck = checkNet;
   forwardScan = forwardScanned;
   kindScan = kindScanned;
@@ -45,6 +49,7 @@ ran s past = scanOutcome (cond (s .done) (scanned.Done (s .count)) (scanned.Spen
 -- Our engine with another forward scan, kind scan, question or completion.
 abbrev pub withForwardScan : (ℕ → ℕ → List ℕ → ℕ → ℕ → List ℕ → ScanOutcome) → Engine
 withForwardScan f = record {
+  wordCheck = ours .wordCheck;
   netCheck = ours .netCheck;
   forwardScan = f;
   kindScan = ours .kindScan;
@@ -57,6 +62,7 @@ withForwardScan f = record {
 
 abbrev pub withKindScan : (ℕ → ℕ → List ℕ → ℕ → ℕ → List ℕ → ScanOutcome) → Engine
 withKindScan f = record {
+  wordCheck = ours .wordCheck;
   netCheck = ours .netCheck;
   forwardScan = ours .forwardScan;
   kindScan = f;
@@ -69,6 +75,7 @@ withKindScan f = record {
 
 abbrev pub withQuestion : (ℕ → ℕ → List ℕ → ℕ → ℕ → List ℕ → QuestionOutcome) → Engine
 withQuestion f = record {
+  wordCheck = ours .wordCheck;
   netCheck = ours .netCheck;
   forwardScan = ours .forwardScan;
   kindScan = ours .kindScan;
@@ -81,6 +88,7 @@ withQuestion f = record {
 
 abbrev pub withCompletion : (ℕ → ℕ → List ℕ → List ℕ → List ℕ → CompletionOutcome) → Engine
 withCompletion f = record {
+  wordCheck = ours .wordCheck;
   netCheck = ours .netCheck;
   forwardScan = ours .forwardScan;
   kindScan = ours .kindScan;

@@ -2,6 +2,8 @@
 use Prim.Native.Nat.{ℕ}
 use Rattle.net.specs.Table.{checkedReply}
 use Rattle.net.specs.declared.Checked.{Checked}
+use Rattle.check_word.specs.Table.{wordReply}
+use Rattle.check_word.specs.declared.WordChecked.{WordChecked}
 use Rattle.scan.specs.Table.{ScanOutcome, scanReply}
 use Rattle.question.specs.Table.{QuestionOutcome, askedReply}
 use Rattle.clash.specs.Table.{ClashOutcome, clashedReply}
@@ -11,6 +13,9 @@ use Rattle.reason_check.specs.Table.{verdictReply}
 use Rattle.reason_check.specs.declared.Verdict.{Verdict}
 use Rattle.netfile.specs.Contents.{contentsReply}
 use Rattle.netfile.specs.Table.{FileOutcome}
+
+abbrev pub wordNumber : WordChecked → ℕ
+wordNumber r = wordReply r .number
 
 abbrev pub checkedNumber : Checked → ℕ
 checkedNumber r = checkedReply r .number

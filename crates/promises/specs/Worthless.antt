@@ -9,6 +9,7 @@ use Rattle.theory.specs.Scans.{same, Scan}
 use Rattle.theory.specs.declared.Command.{Command}
 use Rattle.net.specs.declared.Refusal.{Refusal}
 use Rattle.net.specs.declared.Checked.the-variants as checked
+use Rattle.check_word.specs.declared.WordChecked.the-variants as wordChecked
 use Rattle.scan.specs.Table.{ScanOutcome, scanOutcome, badStart, scanTable}
 use Rattle.scan_start.specs.Starts.{cleared, start}
 use Rattle.scan_round.specs.Turns.{commands}
@@ -32,6 +33,7 @@ use Rattle.promises.specs.Engines.{Engine, ours, ran, withForwardScan, w
 -- One that refuses all calls, with the refusal r.
 abbrev pub refuser : Refusal → Engine
 refuser r = record {
+  wordCheck = λ o k w. wordChecked.Refused r;
   netCheck = λ o k ws. checked.Refused r;
   forwardScan = λ o k ws x budget m. scanOutcome (scanned.Refused r) m;
   kindScan = λ o k ws y budget m. scanOutcome (scanned.Refused r) m;
@@ -100,6 +102,7 @@ hastyScan kind o k ws x budget m =
 -- One that updates marks inside a command, in both scans and in the question.
 abbrev pub hasty : Engine
 hasty = record {
+  wordCheck = ours .wordCheck;
   netCheck = ours .netCheck;
   forwardScan = hastyScan false;
   kindScan = hastyScan true;

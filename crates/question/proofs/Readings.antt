@@ -6,6 +6,7 @@ use Rattle.theory.specs.Marks.{mark, link, links, command, round}
 use Rattle.theory.specs.Scans.{same, rounds}
 use Rattle.theory.specs.NetM.{M}
 use Rattle.net.specs.Legal.{legalPrefix}
+use Rattle.net.specs.declared.Cause.the-variants.{Head}
 use Rattle.net.specs.declared.Refusal.the-variants.{IllegalWord, BadQuestion, ShortBuffer}
 use Rattle.question.specs.Table.{questionOutcome, questioned}
 use Rattle.question.specs.declared.Answer.the-variants.{None, Yes, No, Both}
@@ -37,7 +38,7 @@ unfolding legalPrefix rounds same round command links link mark
 ask-3-0 = refl
 
 -- Number 3 comes before number 4, number 4 before number 5, and number 5 is given for a byte too few.
-pub ask-illegal : questioned 1 1 (2 ∷ 0 ∷ []) 5 5 [] ≡ questionOutcome (asked.Refused (IllegalWord 1)) []
+pub ask-illegal : questioned 1 1 (2 ∷ 0 ∷ []) 5 5 [] ≡ questionOutcome (asked.Refused (IllegalWord 1 Head)) []
 unfolding legalPrefix rounds same round command links link mark
 ask-illegal = refl
 

@@ -40,6 +40,14 @@ fn on_words(engine: Engine, n: Numbers, words: &[u32]) -> Reply {
     }
 }
 
+// The check of a word.
+fn on_word(engine: Engine, n: Numbers) -> Reply {
+    match engine {
+        Engine::Proved => proved::on_word(n),
+        Engine::Second => other::on_word(n),
+    }
+}
+
 // An operation that is lent marks alone, the first `size` of those here.
 fn on_marks(
     engine: Engine,
@@ -202,6 +210,7 @@ pub fn run(
 ) -> Reply {
     match operation {
         Operation::CheckNet => on_words(engine, n, words),
+        Operation::CheckWord => on_word(engine, n),
         Operation::Completion => with_list(engine, n, words, first, second, buffers),
         Operation::Reason => with_scratch(engine, n, words, first, second, buffers),
         Operation::ReasonCheck => with_reason(engine, n, words, second, buffers),

@@ -10,6 +10,11 @@ pub fn on_words(n: Numbers, words: &[u32]) -> Reply {
     second::check_net(n.o, n.k, words)
 }
 
+// The check of a word.
+pub fn on_word(n: Numbers) -> Reply {
+    second::check_word(n.o, n.k, n.x)
+}
+
 // An operation that is lent marks alone.
 pub fn on_marks(operation: Operation, n: Numbers, words: &[u32], marks: &mut [u8]) -> Reply {
     match operation {

@@ -9,6 +9,7 @@ use readings_cases::operations::Numbers;
 use readings_cases::operations::Operation;
 use second::Reply;
 use strumelka::strumelka_check_net;
+use strumelka::strumelka_check_word;
 use strumelka::strumelka_clash;
 use strumelka::strumelka_completion;
 use strumelka::strumelka_forward_scan;
@@ -20,6 +21,11 @@ use strumelka::strumelka_reason_check;
 // The check of a net.
 pub fn on_words(n: Numbers, words: &[u32]) -> Reply {
     reply_given(strumelka_check_net(n.o, n.k, words))
+}
+
+// The check of a word.
+pub fn on_word(n: Numbers) -> Reply {
+    reply_given(strumelka_check_word(n.o, n.k, n.x))
 }
 
 // An operation that is lent marks alone.

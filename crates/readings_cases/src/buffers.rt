@@ -25,6 +25,7 @@ pub const TEXT_SIZE: usize = 262144;
 fn writes_first(operation: Operation) -> bool {
     match operation {
         Operation::CheckNet => false,
+        Operation::CheckWord => false,
         Operation::ReasonCheck => false,
         Operation::File => false,
         Operation::Ask => false,

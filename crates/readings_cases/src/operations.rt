@@ -13,9 +13,10 @@ use crate::places::number_at;
 use crate::places::put_number;
 use crate::places::same_bytes;
 
-// An operation of the base.
+// An operation of the two engines.
 pub enum Operation {
     CheckNet,
+    CheckWord,
     ForwardScan,
     KindScan,
     Question,
@@ -44,7 +45,7 @@ pub struct Case {
     pub second: usize,
 }
 
-// The numbers of a case: o, k, and what follows the words.
+// The numbers of a case: o, k, and what follows them or the words; the one word of a single test is x.
 pub struct Numbers {
     pub o: u32,
     pub k: u32,
@@ -57,6 +58,9 @@ pub struct Numbers {
 pub fn operation_of(name: &[u8]) -> Operation {
     if same_bytes(name, b"check_net") {
         return Operation::CheckNet;
+    }
+    if same_bytes(name, b"check_word") {
+        return Operation::CheckWord;
     }
     if same_bytes(name, b"forward_scan") {
         return Operation::ForwardScan;
@@ -98,6 +102,7 @@ fn file_operation_of(name: &[u8]) -> Operation {
 fn letter_at(operation: Operation, at: usize) -> u8 {
     match operation {
         Operation::CheckNet => byte_at(b"nnw", at),
+        Operation::CheckWord => byte_at(b"nnn", at),
         Operation::ForwardScan => byte_at(b"nnwnnm", at),
         Operation::KindScan => byte_at(b"nnwnnm", at),
         Operation::Question => byte_at(b"nnwnnm", at),

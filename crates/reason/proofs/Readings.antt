@@ -6,6 +6,7 @@ use Rattle.theory.specs.Reasons.{never}
 use Rattle.theory.specs.Searches.{arcs, level, levels, distances, next, descend, reasonStates, firsts, reasonList}
 use Rattle.theory.specs.NetM.{M}
 use Rattle.net.specs.Legal.{legalPrefix}
+use Rattle.net.specs.declared.Cause.the-variants.{Head}
 use Rattle.net.specs.declared.Refusal.the-variants.{TooManyNodes, IllegalWord, BadQuestion, ShortBuffer}
 use Rattle.reason.specs.Table.{reasonOutcome, reasoned}
 use Rattle.reason.specs.declared.Reasoned.the-variants.{Done, Unsupported, Short, Refused}
@@ -96,7 +97,7 @@ scratch-too-short = refl
 
 -- Numbers 1 to 3 come before these.
 pub illegal-word-first : reasoned 1 1 (2 ∷ 0 ∷ []) 9 9 9 [] []
-    ≡ reasonOutcome (Refused (IllegalWord 1)) [] []
+    ≡ reasonOutcome (Refused (IllegalWord 1 Head)) [] []
 unfolding legalPrefix distances levels level arcs reasonStates descend next firsts reasonList
 illegal-word-first = refl
 

@@ -5,6 +5,7 @@ use mathlib.Core.List.{List, [], _∷_}
 use Rattle.theory.specs.Checks.{listed, allSteps, passes}
 use Rattle.theory.specs.NetM.{M}
 use Rattle.net.specs.Legal.{legalPrefix}
+use Rattle.net.specs.declared.Cause.the-variants.{Head}
 use Rattle.net.specs.declared.Refusal.the-variants.{TooManyNodes, IllegalWord, BadQuestion}
 use Rattle.reason_check.specs.Table.{verdict}
 use Rattle.reason_check.specs.declared.Verdict.{Verdict}
@@ -132,6 +133,6 @@ pub too-many-nodes : verdict 1024 1 [] 2000 0 2 [] ≡ Refused TooManyNodes
 unfolding legalPrefix passes allSteps listed
 too-many-nodes = refl
 
-pub illegal-word : verdict 1 1 (2 ∷ 0 ∷ []) 2000 0 2 [] ≡ Refused (IllegalWord 1)
+pub illegal-word : verdict 1 1 (2 ∷ 0 ∷ []) 2000 0 2 [] ≡ Refused (IllegalWord 1 Head)
 unfolding legalPrefix passes allSteps listed
 illegal-word = refl

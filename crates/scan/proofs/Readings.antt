@@ -5,6 +5,7 @@ use Rattle.theory.specs.Marks.{mark, link, links, command, round}
 use Rattle.theory.specs.Scans.{after, same, rounds}
 use Rattle.theory.specs.NetM.{M}
 use Rattle.net.specs.Legal.{legalPrefix}
+use Rattle.net.specs.declared.Cause.the-variants.{Head}
 use Rattle.net.specs.declared.Refusal.the-variants.{TooManyNodes, IllegalWord, BadQuestion, ShortBuffer}
 use Rattle.scan.specs.Table.{scanOutcome, forwardScanned, kindScanned}
 use Rattle.scan.specs.declared.Scanned.the-variants.{Done, Spent, Refused}
@@ -90,7 +91,7 @@ pub word-2-legal : forwardScanned 1 1 (2 ∷ []) 0 4 (7 ∷ 7 ∷ []) ≡ scanOu
 unfolding legalPrefix after rounds same round command links link mark
 word-2-legal = refl
 
-pub word-0-illegal : forwardScanned 1 1 (0 ∷ []) 0 4 (7 ∷ 7 ∷ []) ≡ scanOutcome (Refused (IllegalWord 0)) (7 ∷ 7 ∷ [])
+pub word-0-illegal : forwardScanned 1 1 (0 ∷ []) 0 4 (7 ∷ 7 ∷ []) ≡ scanOutcome (Refused (IllegalWord 0 Head)) (7 ∷ 7 ∷ [])
 unfolding legalPrefix after rounds same round command links link mark
 word-0-illegal = refl
 

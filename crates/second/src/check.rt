@@ -32,12 +32,22 @@ pub fn head_of(word: u32) -> u32 {
     word / 2 % 1024
 }
 
+// Why a word is illegal: 1 if its tail is no node, else 2 if its head is no kind; 0 where it is legal.
+pub fn cause_of(o: u32, k: u32, word: u32) -> u32 {
+    if !is_node(o, k, tail_of(word)) {
+        return 1;
+    }
+    if !is_kind(o, k, head_of(word)) {
+        return 2;
+    }
+    0
+}
+
 // The index of the first illegal word, or the number of words.
 fn first_illegal(o: u32, k: u32, words: &[u32]) -> usize {
     let mut i = 0;
     while i < words.len() {
-        let word = words[i];
-        if !is_node(o, k, tail_of(word)) || !is_kind(o, k, head_of(word)) {
+        if cause_of(o, k, words[i]) != 0 {
             return i;
         }
         i += 1;
@@ -45,7 +55,7 @@ fn first_illegal(o: u32, k: u32, words: &[u32]) -> usize {
     i
 }
 
-// Numbers 1 to 3; number 0 where none of them applies.
+// Numbers 1 to 3, number 3 with the index and the cause of the first illegal word; number 0 where none of them applies.
 pub fn net_check(o: u32, k: u32, words: &[u32]) -> Reply {
     if node_count(o, k) > 1024 {
         return refused(1);
@@ -55,7 +65,7 @@ pub fn net_check(o: u32, k: u32, words: &[u32]) -> Reply {
     }
     let i = first_illegal(o, k, words);
     if i < words.len() {
-        return given(3, narrow(i), 0);
+        return given(3, narrow(i), cause_of(o, k, words[i]));
     }
     refused(0)
 }

@@ -1,4 +1,4 @@
-// A second engine for the operations of 01, written from the request alone: it closes a table of all pairs under the support
+// A second engine for the operations of 01 and 02, written from the request alone: it closes a table of all pairs under the support
 // rules, where the proved engine spreads markers. It promises to be safe and to end; its answers are there to be compared.
 
 mod reply; // reply.rt: number and values of an answer
@@ -11,6 +11,7 @@ mod path; // path.rt: whether a list is a path
 mod file; // file.rt: the net file
 mod text; // text.rt: the lines of `ask`
 
+use check::cause_of;
 use check::kind_check;
 use check::net_check;
 use check::node_check;
@@ -220,6 +221,18 @@ pub fn check_net(o: u32, k: u32, words: &[u32]) -> Reply {
         return checked;
     }
     given(0, narrow(node_count(o, k)), 0)
+}
+
+// Numbers 1 and 3 for one word: an illegal one has index 0 and its cause.
+pub fn check_word(o: u32, k: u32, word: u32) -> Reply {
+    if node_count(o, k) > 1024 {
+        return refused(1);
+    }
+    let cause = cause_of(o, k, word);
+    if cause != 0 {
+        return given(3, 0, cause);
+    }
+    refused(0)
 }
 
 // The place of a malformed file's 9, or where the questions of a well-formed one start.

@@ -67,11 +67,12 @@ pub fn file_line(text: &mut [u8], place: u32) -> usize {
     put_field(text, end, place, 10)
 }
 
-// The line of a refused net.
+// The line of a refused net: its number, the index and the cause.
 pub fn net_line(text: &mut [u8], net: Reply) -> usize {
     let end = put_bytes(text, 0, b"net ");
-    let next = put_field(text, end, net.number, 32);
-    put_field(text, next, net.first, 10)
+    let index = put_field(text, end, net.number, 32);
+    let cause = put_field(text, index, net.first, 32);
+    put_field(text, cause, net.second, 10)
 }
 
 // Appends one of the four words and a space.

@@ -3,6 +3,7 @@ use Prim.Native.Nat.{ℕ}
 use mathlib.Core.Path.{_≡_, sym, _∙_}
 use mathlib.Core.List.{List}
 use Rattle.net.specs.Table.{Reply, checkNet, checkedReply}
+use Rattle.check_word.specs.Table.{checkWord, wordReply}
 use Rattle.scan.specs.Table.{forwardScanned, kindScanned, scanReply}
 use Rattle.question.specs.Table.{questioned, askedReply}
 use Rattle.clash.specs.Table.{clashedBy, clashedReply}
@@ -22,6 +23,10 @@ module _ {s : Reply} (r q : Reply) where
 
   leaves-two : {t u : List ℕ} (m l c d : List ℕ) → (r ≡ s) × (m ≡ t) × (c ≡ u) → (q ≡ s) × (l ≡ t) × (d ≡ u) → (r ≡ q) × (m ≡ l) × (c ≡ d)
   leaves-two m l c d e f = (gives-one (e .0) (f .0), e .1 ∙ sym (f .1), e .2 ∙ sym (f .2))
+
+-- `strumelka_check_word`.
+pub check-word-unique : (o k w : ℕ) (r q : Reply) → r ≡ wordReply (checkWord o k w) → q ≡ wordReply (checkWord o k w) → r ≡ q
+check-word-unique o k w r q = gives-one r q
 
 module _ (o k : ℕ) (ws : List ℕ) (r q : Reply) where
   -- `strumelka_check_net`.

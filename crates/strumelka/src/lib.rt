@@ -1,12 +1,14 @@
 // What a C or a Rust program links: each operation, its answer given as a reply.
 ghost use mathlib.Core.Path.{_≡_};
 ghost use Rattle.net.specs.Table.{checkNet, checkedReply};
+ghost use Rattle.check_word.specs.Table.{checkWord, wordReply};
 ghost use Rattle.scan.specs.Table.{forwardScanned, kindScanned, scanReply};
 ghost use Rattle.question.specs.Table.{questioned, askedReply};
 ghost use Rattle.clash.specs.Table.{clashedBy, clashedReply};
 ghost use Rattle.completion.specs.Table.{completedBy, completedReply};
 ghost use Rattle.reason.specs.Table.{reasoned, reasonedReply};
 ghost use Rattle.reason_check.specs.Table.{verdict, verdictReply};
+use check_word::check_word;
 use clash::find_clash;
 use completion::complete_net;
 use library_answer::asked_given;
@@ -16,6 +18,7 @@ use library_answer::reasoned_given;
 use library_answer::scanned_given;
 use library_answer::verdict_given;
 use library_reply::checked_given;
+use library_reply::word_given;
 use net::Reply;
 use net::check_net;
 use question::ask_question;
@@ -23,6 +26,14 @@ use reason::find_reason;
 use reason_check::check_reason;
 use scan::forward_scan;
 use scan::kind_scan;
+
+// The test of a single word.
+#[no_mangle]
+pub extern "C" fn strumelka_check_word(o: u32, k: u32, word: u32) -> Reply
+    ensures { λ r. ⌜ r ≡ wordReply (checkWord o k word) ⌝ }
+{
+    word_given(check_word(o, k, word))
+}
 
 // The check of a net.
 #[no_mangle]

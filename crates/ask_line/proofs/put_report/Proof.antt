@@ -57,12 +57,12 @@ put-number-requires-2 c κs =
 add-at-2 : tie.Need-add-at-2
 add-at-2 c =
     let start = c .before .before .before .before .before .before .before .before .before .before .before .before .before .before in
-    omega (arith, two-fit (c .before .before .before .before .before .before), two-written (c .before .before .before .before .before .before) .size, c .before .before .put-number2 .ensures .size, number-room (start .args .value) 10)
+    omega (arith, two-fit (c .before .before .before .before .before .before), two-written (c .before .before .before .before .before .before) .size, c .before .before .put-number2 .ensures .size, number-room (start .args .value) (start .args .after))
 
 returns : tie.Need-returns
 returns c =
     let start = c .before .before .before .before .before .before .before .before .before .before .before .before .before .before in
-    wrote-as (report-joins (start .args .word .now) (start .args .number) (start .args .value)) (wrote-more (two-written (c .before .before .before .before .before .before)) (two-fit (c .before .before .before .before .before .before)) (c .before .before .put-number2 .ensures))
+    wrote-as (report-joins (start .args .word .now) (start .args .number) (start .args .value) (start .args .after)) (wrote-more (two-written (c .before .before .before .before .before .before)) (two-fit (c .before .before .before .before .before .before)) (c .before .before .put-number2 .ensures))
 
 pub put-report-spec : {M : Type 1} → statement M
 put-report-spec =

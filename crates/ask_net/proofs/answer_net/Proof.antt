@@ -16,18 +16,17 @@ returns c =
 returns-2 : tie.Need-returns-2
 returns-2 c =
     let report = c .before .before in
-    let given = report .before .before .before in
+    let given = report .before .before in
     let net = given .before .before in
     let checked = net .before .before in
     let a = checked .before .before .before .before .args in
     wrote-as (net-report (a .o) (a .k) (a .words .now) (checked .check-net .ensures) (a .questions .now) (net .checked .given .1) (given .refusal-given .ensures))
-    (report .put-report .ensures)
+    (report .put-refused-net .ensures)
 
 pub answer-net-spec : {M : Type 1} → statement M
 answer-net-spec =
     tie.close
     (tie.spec
-    (search needs)
     (search needs)
     (search needs)
     (search needs)

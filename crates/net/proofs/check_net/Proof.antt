@@ -18,8 +18,9 @@ returns-2 c =
 
 returns-3 : tie.Need-returns-3
 returns-3 c =
-    let a = c .before .before .before .before .before .args in
-    stops-illegal (a .o) (a .k) (a .words .now) (omega arith) (omega arith) (c .before .first-illegal .ensures) (omega arith)
+    let found = c .before .before .before in
+    let a = found .before .before .before .before .args in
+    stops-illegal (a .o) (a .k) (a .words .now) (omega arith) (omega arith) (found .first-illegal .ensures) (omega arith) (c .refuse-word .ensures)
 
 returns-4 : tie.Need-returns-4
 returns-4 c =
@@ -27,4 +28,4 @@ returns-4 c =
     ends-nodes (a .o) (a .k) (a .words .now) (omega arith) (omega arith) (c .before .first-illegal .ensures) (omega arith)
 
 pub check-net-spec : {M : Type 1} → statement M
-check-net-spec = tie.close (tie.spec (search needs) returns returns-2 (search needs) (λ c. search needs) returns-3 returns-4)
+check-net-spec = tie.close (tie.spec (search needs) returns returns-2 (search needs) (λ c. search needs) (search needs) (search needs) (search needs) returns-3 returns-4)

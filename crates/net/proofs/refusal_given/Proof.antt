@@ -1,6 +1,7 @@
 -- Each refusal has its reply.
+use mathlib.Core.Path.{ap, _∙_}
 use borrow.Author.Needs.{needs}
-use Rattle.net.specs.Table.{refusalReply}
+use Rattle.net.specs.Table.{reply, refusalReply}
 use Rattle.net.proofs.Replies.{carry-reply}
 use Rattle.net.proofs.refusal_given.Statement.{statement}
 use Rattle.net.proofs.refusal_given.Tie as tie
@@ -12,7 +13,9 @@ returns-2 : tie.Need-returns-2
 returns-2 c = carry-reply refusalReply (c .before .enum-told2 .given .1) (c .reply-of2 .ensures)
 
 returns-3 : tie.Need-returns-3
-returns-3 c = carry-reply refusalReply (c .before .before .refusal .given .1) (c .reply-of3 .ensures)
+returns-3 c =
+    carry-reply refusalReply (c .before .before .before .refusal .given .1)
+    (c .reply-of3 .ensures ∙ ap (reply 3 (c .before .before .before .refusal .given .0 .0)) (c .before .cause-number .ensures))
 
 returns-4 : tie.Need-returns-4
 returns-4 c = carry-reply refusalReply (c .before .enum-told3 .given .1) (c .reply-of4 .ensures)
@@ -24,6 +27,7 @@ pub refusal-given-spec : {M : Type 1} → statement M
 refusal-given-spec =
     tie.close
     (tie.spec
+    (search needs)
     (search needs)
     (search needs)
     (search needs)

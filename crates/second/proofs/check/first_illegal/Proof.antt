@@ -25,7 +25,4 @@ first-illegal-spec =
     (search needs)
     (search needs)
     (search needs)
-    (search needs)
-    (search needs)
-    (search needs)
     (search needs))
