@@ -146,11 +146,11 @@ struct strumelka_answer strumelka_completion(
     uint32_t o, uint32_t k, const uint32_t *words, size_t words_len,
     uint8_t *marks, size_t marks_len, uint32_t *list, size_t list_len);
 
-/* The clash test: is some object both of some kind and not of it?
- *   0        first = the smallest such object; second = its smallest such kind
+/* The clash test: is some node, object or kind, both of some kind and not of it?
+ *   0        first = the smallest such node; second = its smallest such kind
  *   1, 2, 3  as in strumelka_check_net
  *   5        marks_len is below STRUMELKA_MARKS(o, k); marks unchanged
- *   7        no object clashes
+ *   7        no node clashes
  * With 0 and 7 the first o + k bytes of marks are zero afterwards. */
 struct strumelka_answer strumelka_clash(
     uint32_t o, uint32_t k, const uint32_t *words, size_t words_len,

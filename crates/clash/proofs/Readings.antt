@@ -19,19 +19,24 @@ pub clash-0-1 : clashedBy 1 2 (2 ∷ 3 ∷ []) (9 ∷ 9 ∷ 9 ∷ 77 ∷ 78 ∷ 
 unfolding firstClash firstBoth legalPrefix rounds same round command links link mark
 clash-0-1 = refl
 
--- Net M has no clash, and a kind that is not itself is none.
+-- Net M has no clash; a kind that is not itself clashes there.
 pub clash-M : clashedBy 2 4 M left ≡ clashOutcome clashed.Nowhere (0 ∷ 0 ∷ 0 ∷ 0 ∷ 0 ∷ 0 ∷ 200 ∷ 201 ∷ [])
 unfolding firstClash firstBoth legalPrefix rounds same round command links link mark
 clash-M = refl
 
-pub clash-kind : clashedBy 0 1 (1 ∷ []) (255 ∷ 254 ∷ []) ≡ clashOutcome clashed.Nowhere (0 ∷ 254 ∷ [])
+pub clash-kind : clashedBy 0 1 (1 ∷ []) (255 ∷ 254 ∷ []) ≡ clashOutcome (clashed.At 0 0) (0 ∷ 254 ∷ [])
 unfolding firstClash firstBoth legalPrefix rounds same round command links link mark
 clash-kind = refl
 
--- The smallest object and then its smallest kind: 1 clashes at 3 and 4, and so does 2.
+-- The smallest node and then its smallest kind: 1 clashes at 3 and 4, and so does 2.
 pub clash-smallest : clashedBy 3 2 (2054 ∷ 2055 ∷ 2056 ∷ 2057 ∷ 4102 ∷ 4103 ∷ []) (1 ∷ 2 ∷ 3 ∷ 4 ∷ 5 ∷ 6 ∷ []) ≡ clashOutcome (clashed.At 1 3) (0 ∷ 0 ∷ 0 ∷ 0 ∷ 0 ∷ 6 ∷ [])
 unfolding firstClash firstBoth legalPrefix rounds same round command links link mark
 clash-smallest = refl
+
+-- A kind clashes where no object does: 2 is and is not 1.
+pub clash-of-kinds : clashedBy 1 2 (4098 ∷ 4099 ∷ []) (9 ∷ 9 ∷ 9 ∷ 77 ∷ []) ≡ clashOutcome (clashed.At 2 1) (0 ∷ 0 ∷ 0 ∷ 77 ∷ [])
+unfolding firstClash firstBoth legalPrefix rounds same round command links link mark
+clash-of-kinds = refl
 
 -- A byte too few is number 5; no nodes need none.
 pub clash-short : clashedBy 1 2 (2 ∷ 3 ∷ []) (9 ∷ 9 ∷ []) ≡ clashOutcome (clashed.Refused ShortBuffer) (9 ∷ 9 ∷ [])

@@ -21,9 +21,9 @@ pub record ClashOutcome : Type 0 where
 abbrev pub clashOutcome : Clashed → List ℕ → ClashOutcome
 clashOutcome r m = record { answer = r; marks = m }
 
--- The nodes that can clash: those below this number, the objects.
+-- The nodes that can clash are those below this number: all nodes, objects and kinds ([3]).
 abbrev pub clashNodes : ℕ → ℕ → ℕ
-clashNodes o k = o
+clashNodes o k = o + k
 
 -- The first of j kinds from y on that has both marks, or the one after them.
 unfoldable pub firstBoth : List ℕ → ℕ → ℕ → ℕ

@@ -44,8 +44,9 @@ fn search_clash(o: u32, k: u32, n: usize, words: &[u32], marks: &mut [u8]) -> Cl
     ensures long { λ r. ⌜ length (now (marks .exit)) ≡ length (now (marks .entry)) ⌝ }
 {
     let objects = o as usize;
+    let end = n as u32;
     let mut x = 0;
-    while x < o {
+    while x < end {
         full_scan(o, k, n, words, x, marks);
         let y = first_both(objects, n, marks);
         if y < n {
@@ -70,7 +71,7 @@ fn clash_net(o: u32, k: u32, n: usize, words: &[u32], marks: &mut [u8]) -> Clash
     found
 }
 
-// Whether some object has both marks at some kind.
+// Whether some node, object or kind, has both marks at some kind.
 pub fn find_clash(o: u32, k: u32, words: &[u32], marks: &mut [u8]) -> Clashed
     ensures { λ r. ⌜ clashOutcome r (now (marks .exit)) ≡ clashedBy o k (now (words .entry)) (now (marks .entry)) ⌝ }
 {

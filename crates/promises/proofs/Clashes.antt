@@ -1,4 +1,4 @@
--- What the clash test finds: the smallest clash of the net, or nothing exactly if no object clashes.
+-- What the clash test finds: the smallest clash of the net, or nothing exactly if no node clashes.
 use Prim.Native.Nat.{ℕ, zero, suc, _+_, _≤_, _<_}
 use mathlib.Core.Path.{_≡_, refl, sym, ap, subst, _∙_}
 use mathlib.Core.Bool.{Bool, true, false, cond, _&&_}
@@ -15,7 +15,7 @@ use Rattle.theory.specs.Nets.{Kind, Net}
 use Rattle.theory.specs.Marks.{saysYes, saysNo}
 use Rattle.theory.specs.Completion.{fullMarks}
 use Rattle.theory.proofs.completion.Completing.{full-exact}
-use Rattle.clash.specs.Table.{firstBoth, firstClash, clashSearch, nowhere as isNowhere, clashedReply}
+use Rattle.clash.specs.Table.{clashNodes, firstBoth, firstClash, clashSearch, nowhere as isNowhere, clashedReply}
 use Rattle.clash.specs.declared.Clashed.{Clashed}
 use Rattle.clash.specs.declared.Clashed.the-variants.{At, Nowhere}
 use Rattle.promises.specs.Clashing.{ClashAt, SmallestClash}
@@ -100,12 +100,12 @@ module _ (o k : ℕ) (ws : List ℕ) where
 
   module _ (net : Net o k ws) where
     -- Both marks are both answers.
-    clash-of : (x y : ℕ) → x < o → Kind o k y → both (fullMarks o k ws x) y ≡ true → ClashAt o k ws x y
+    clash-of : (x y : ℕ) → x < o + k → Kind o k y → both (fullMarks o k ws x) y ≡ true → ClashAt o k ws x y
     clash-of x y h a e =
         let t = saysYes (getD (fullMarks o k ws x) y 0) in
         let f = saysNo (getD (fullMarks o k ws x) y 0) in
         record {
-          object = h;
+          node = h;
           kind = a;
           isYes = full-exact o k ws net x y is (omega arith) a .0 (and-left t f e);
           isNo = full-exact o k ws net x y isnt (omega arith) a .0 (and-right t f e);
@@ -113,18 +113,18 @@ module _ (o k : ℕ) (ws : List ℕ) where
 
     marks-of : (x y : ℕ) → ClashAt o k ws x y → both (fullMarks o k ws x) y ≡ true
     marks-of x y c =
-        let h : x < o + k = omega (arith, c .object) in
+        let h : x < o + k = omega (arith, c .node) in
         and-both (saysYes (getD (fullMarks o k ws x) y 0)) (saysNo (getD (fullMarks o k ws x) y 0))
         (full-exact o k ws net x y is h (c .kind) .1 (c .isYes)) (full-exact o k ws net x y isnt h (c .kind) .1 (c .isNo))
 
     no-peace : {A : Type 0} (x y : ℕ) → ClashAt o k ws x y → Peace x → A
     no-peace x y c p = contradiction (sym (p y (c .kind)) ∙ marks-of x y c)
 
-    war-smallest : (x y : ℕ) → x < o → War x y → ((w : ℕ) → 0 ≤ w → w < x → Peace w) → SmallestClash o k ws x y
-    war-smallest x y h w b = record { clash = clash-of x y h (w .kind) (w .marks); object = object; kind = kind }
+    war-smallest : (x y : ℕ) → x < o + k → War x y → ((w : ℕ) → 0 ≤ w → w < x → Peace w) → SmallestClash o k ws x y
+    war-smallest x y h w b = record { clash = clash-of x y h (w .kind) (w .marks); node = node; kind = kind }
       where
-        object : (u v : ℕ) → ClashAt o k ws u v → x ≤ u
-        object u v c = pick (decLt u x)
+        node : (u v : ℕ) → ClashAt o k ws u v → x ≤ u
+        node u v c = pick (decLt u x)
           where
             pick : Dec (u < x) → x ≤ u
             pick (yes l) = no-peace u v c (b u (omega arith) l)
@@ -140,50 +140,50 @@ module _ (o k : ℕ) (ws : List ℕ) where
     -- There is one smallest clash at most.
     pub smallest-unique : (x y u v : ℕ) → SmallestClash o k ws x y → SmallestClash o k ws u v → (x ≡ u) × (y ≡ v)
     smallest-unique x y u v c d =
-        let e : x ≡ u = omega (arith, c .object u v (d .clash), d .object x y (c .clash)) in
+        let e : x ≡ u = omega (arith, c .node u v (d .clash), d .node x y (c .clash)) in
         (e, omega (arith, c .kind v (subst (λ (w : ℕ). ClashAt o k ws w v) (sym e) (d .clash)), d .kind y (subst (λ (w : ℕ). ClashAt o k ws w y) e (c .clash))))
 
-    is-smallest : (x y : ℕ) → firstClash o k ws 0 o ≡ At x y → SmallestClash o k ws x y
-    is-smallest x y e = at (search 0 o)
+    is-smallest : (x y : ℕ) → clashSearch o k ws ≡ At x y → SmallestClash o k ws x y
+    is-smallest x y e = at (search 0 (clashNodes o k))
       where
-        at : Found 0 o (firstClash o k ws 0 o) → SmallestClash o k ws x y
+        at : Found 0 (clashNodes o k) (clashSearch o k ws) → SmallestClash o k ws x y
         at (somewhere u v f l h w b) =
             let p : u ≡ x = ap (λ (c : Clashed). clashedReply c .first) (sym f ∙ e) in
             let q : v ≡ y = ap (λ (c : Clashed). clashedReply c .second) (sym f ∙ e) in
             rw (p, q) at (war-smallest u v (omega arith) w b)
         at (nowhere f b) = contradiction (ap isNowhere (sym e ∙ f))
 
-    smallest-is : (x y : ℕ) → SmallestClash o k ws x y → firstClash o k ws 0 o ≡ At x y
-    smallest-is x y c = at (search 0 o)
+    smallest-is : (x y : ℕ) → SmallestClash o k ws x y → clashSearch o k ws ≡ At x y
+    smallest-is x y c = at (search 0 (clashNodes o k))
       where
-        at : Found 0 o (firstClash o k ws 0 o) → firstClash o k ws 0 o ≡ At x y
+        at : Found 0 (clashNodes o k) (clashSearch o k ws) → clashSearch o k ws ≡ At x y
         at (somewhere u v f l h w b) = let (p, q) = smallest-unique x y u v c (war-smallest u v (omega arith) w b) in rw (p, q) f
-        at (nowhere f b) = no-peace x y (c .clash) (b x (omega arith) (omega (arith, c .clash .object)))
+        at (nowhere f b) = no-peace x y (c .clash) (b x (omega arith) (omega (arith, c .clash .node)))
 
     -- The clash test gives x and y exactly if they are the smallest clash.
     pub clash-exactly : (x y : ℕ) → (clashSearch o k ws ≡ At x y) ↔ SmallestClash o k ws x y
     clash-exactly x y = (is-smallest x y, smallest-is x y)
 
-    -- It gives none exactly if no object clashes.
+    -- It gives none exactly if no node clashes.
     pub no-clash-exactly : (isNowhere (clashSearch o k ws) ≡ true) ↔ ((x y : ℕ) → ClashAt o k ws x y → ⊥)
-    no-clash-exactly = (there (search 0 o), back (search 0 o))
+    no-clash-exactly = (there (search 0 (clashNodes o k)), back (search 0 (clashNodes o k)))
       where
-        there : Found 0 o (firstClash o k ws 0 o) → isNowhere (clashSearch o k ws) ≡ true → (x y : ℕ) → ClashAt o k ws x y → ⊥
+        there : Found 0 (clashNodes o k) (clashSearch o k ws) → isNowhere (clashSearch o k ws) ≡ true → (x y : ℕ) → ClashAt o k ws x y → ⊥
         there (somewhere u v f l h w b) e x y c = contradiction (sym (ap isNowhere f) ∙ e)
-        there (nowhere f b) e x y c = no-peace x y c (b x (omega arith) (omega (arith, c .object)))
+        there (nowhere f b) e x y c = no-peace x y c (b x (omega arith) (omega (arith, c .node)))
 
-        back : Found 0 o (firstClash o k ws 0 o) → ((x y : ℕ) → ClashAt o k ws x y → ⊥) → isNowhere (clashSearch o k ws) ≡ true
+        back : Found 0 (clashNodes o k) (clashSearch o k ws) → ((x y : ℕ) → ClashAt o k ws x y → ⊥) → isNowhere (clashSearch o k ws) ≡ true
         back (somewhere u v f l h w b) n = absurd (n u v (war-smallest u v (omega arith) w b .clash))
         back (nowhere f b) n = ap isNowhere f
 
-    -- It gives one exactly if some object clashes.
+    -- It gives one exactly if some node clashes.
     pub some-clash-exactly : (isNowhere (clashSearch o k ws) ≡ false) ↔ ((x : ℕ) × (y : ℕ) × ClashAt o k ws x y)
-    some-clash-exactly = (there (search 0 o), back (search 0 o))
+    some-clash-exactly = (there (search 0 (clashNodes o k)), back (search 0 (clashNodes o k)))
       where
-        there : Found 0 o (firstClash o k ws 0 o) → isNowhere (clashSearch o k ws) ≡ false → (x : ℕ) × (y : ℕ) × ClashAt o k ws x y
+        there : Found 0 (clashNodes o k) (clashSearch o k ws) → isNowhere (clashSearch o k ws) ≡ false → (x : ℕ) × (y : ℕ) × ClashAt o k ws x y
         there (somewhere u v f l h w b) e = (u, v, war-smallest u v (omega arith) w b .clash)
         there (nowhere f b) e = contradiction (sym e ∙ ap isNowhere f)
 
-        back : Found 0 o (firstClash o k ws 0 o) → (x : ℕ) × (y : ℕ) × ClashAt o k ws x y → isNowhere (clashSearch o k ws) ≡ false
+        back : Found 0 (clashNodes o k) (clashSearch o k ws) → (x : ℕ) × (y : ℕ) × ClashAt o k ws x y → isNowhere (clashSearch o k ws) ≡ false
         back (somewhere u v f l h w b) c = ap isNowhere f
-        back (nowhere f b) (x, y, c) = no-peace x y c (b x (omega arith) (omega (arith, c .object)))
+        back (nowhere f b) (x, y, c) = no-peace x y c (b x (omega arith) (omega (arith, c .node)))

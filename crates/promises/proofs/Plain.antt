@@ -182,11 +182,11 @@ module _ (o k : ℕ) (ws m : List ℕ) where
   pub clash-5 : (clashNumber (clashedBy o k ws m) ≡ 5) ↔ (Net o k ws × (length m < o + k))
   clash-5 = then (clash-obeys o k ws m .exactly 5) (past-net o k ws (clause-5 o k ws m))
 
-  -- 7: over a net and with marks long enough, no object clashes.
+  -- 7: over a net and with marks long enough, no node clashes.
   pub clash-7 : (clashNumber (clashedBy o k ws m) ≡ 7) ↔ (Net o k ws × ((o + k ≤ length m) × ((x y : ℕ) → ClashAt o k ws x y → ⊥)))
   clash-7 = then (clash-obeys o k ws m .exactly 7) (over-net o k ws (λ n. both (at-least (length m) (o + k)) (clause-7-clash o k ws n)))
 
-  -- 0: over a net and with marks long enough, some object clashes.
+  -- 0: over a net and with marks long enough, some node clashes.
   pub clash-0 : (clashNumber (clashedBy o k ws m) ≡ 0) ↔ (Net o k ws × ((o + k ≤ length m) × ((x : ℕ) × (y : ℕ) × ClashAt o k ws x y)))
   clash-0 = then (clash-obeys o k ws m .exactly 0) (over-net o k ws (λ n. both (at-least (length m) (o + k)) (first-only (some-clash-exactly o k ws n))))
 

@@ -141,7 +141,7 @@ module _ (o k : ℕ) (ws : List ℕ) (net : Net o k ws) where
     pub clause-7-reason : Decides (eqb away never) (Supported o k (Links ws) x y s → ⊥)
     clause-7-reason = decides-not _ supported-exactly
 
-  -- Clause 7 of the clash test: no object clashes.
+  -- Clause 7 of the clash test: no node clashes.
   pub clause-7-clash : Decides (nowhere (clashSearch o k ws)) ((x y : ℕ) → ClashAt o k ws x y → ⊥)
   clause-7-clash = no-clash-exactly o k ws net
 

@@ -1,5 +1,5 @@
--- A clash: an object with both answers at a kind; the smallest one; and what the clash test promises.
-use Prim.Native.Nat.{ℕ, _≤_, _<_}
+-- A clash: a node, object or kind, with both answers at a kind ([3]); the smallest one; and what the clash test promises.
+use Prim.Native.Nat.{ℕ, _+_, _≤_, _<_}
 use mathlib.Core.Path.{_≡_}
 use mathlib.Core.List.{List}
 use Rattle.theory.specs.Words.{is, isnt}
@@ -8,17 +8,17 @@ use Rattle.theory.specs.Support.{Supported}
 use Rattle.clash.specs.declared.Clashed.the-variants as clashed
 use Rattle.promises.specs.Engines.{Engine}
 
--- The net supports both x → y and x ↛ y of the object x.
+-- The net supports both x → y and x ↛ y of the node x.
 pub record ClashAt (o k : ℕ) (ws : List ℕ) (x y : ℕ) : Type 0 where
-  pub object : x < o
+  pub node : x < o + k
   pub kind : Kind o k y
   pub isYes : Supported o k (Links ws) x y is
   pub isNo : Supported o k (Links ws) x y isnt
 
--- The smallest object that clashes, with its smallest kind.
+-- The smallest node that clashes, with its smallest kind.
 pub record SmallestClash (o k : ℕ) (ws : List ℕ) (x y : ℕ) : Type 0 where
   pub clash : ClashAt o k ws x y
-  pub object : (u v : ℕ) → ClashAt o k ws u v → x ≤ u
+  pub node : (u v : ℕ) → ClashAt o k ws u v → x ≤ u
   pub kind : (v : ℕ) → ClashAt o k ws x v → y ≤ v
 
 -- What the clash test promises.

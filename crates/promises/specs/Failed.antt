@@ -28,7 +28,7 @@ abbrev pub neverBack : Engine
 neverBack =
     withQuestion (λ o k ws x y m. call (questionTable o k ws x y m) (readAt y (rounds forwardOnly ws 0 (2 * (o + k)) (forwardStart (o + k) x)) (drop (o + k) m)))
 
--- Classical reasoning: once any object clashes, yes to every question.
+-- Classical reasoning: once any node clashes, yes to every question.
 abbrev pub classical : Engine
 classical =
     withQuestion (λ o k ws x y m.

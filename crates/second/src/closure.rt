@@ -227,11 +227,11 @@ pub fn write_words(support: &[u8; 1048576], list: &mut [u32]) {
     }
 }
 
-// The first cell of an object that holds both, or 1,048,576.
-pub fn clashing_cell(support: &[u8; 1048576], o: usize) -> usize {
+// The first cell that holds both, or 1,048,576: rows stand in the order of nodes, and cells of a row in the order of kinds.
+pub fn clashing_cell(support: &[u8; 1048576]) -> usize {
     let mut at: usize = 0;
     while at < 1048576 {
-        if at / 1024 < o && byte_at(support, at) == 3 {
+        if byte_at(support, at) == 3 {
             return at;
         }
         at += 1;

@@ -122,7 +122,7 @@ pub fn completion(o: u32, k: u32, words: &[u32], marks: &mut [u8], list: &mut [u
     given(0, narrow(count), 0)
 }
 
-// The smallest object that both is and is not some kind, and the smallest such kind.
+// The smallest node, object or kind, that both is and is not some kind, and the smallest such kind of that node.
 pub fn clash(o: u32, k: u32, words: &[u32], marks: &mut [u8]) -> Reply {
     let checked = net_check(o, k, words);
     if checked.number != 0 {
@@ -135,7 +135,7 @@ pub fn clash(o: u32, k: u32, words: &[u32], marks: &mut [u8]) -> Reply {
     let mut support = empty_table();
     close(node(o), n, words, &mut support);
     clear(marks, n);
-    let at = clashing_cell(&support, node(o));
+    let at = clashing_cell(&support);
     if at >= 1048576 {
         return refused(7);
     }

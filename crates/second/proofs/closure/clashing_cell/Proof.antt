@@ -5,10 +5,10 @@ use Rattle.second.proofs.closure.clashing_cell.Statement.{statement}
 use Rattle.second.proofs.closure.clashing_cell.Tie as tie
 
 abbrev Inv-loop : tie.InvT-loop
-Inv-loop support o at₀ at = at ≤ 1048576
+Inv-loop support at₀ at = at ≤ 1048576
 
 abbrev μ-loop : tie.MeasureT-loop
-μ-loop support o at₀ at = 1048576 - at
+μ-loop support at₀ at = 1048576 - at
 
 pub clashing-cell-spec : {M : Type 1} → statement M
 clashing-cell-spec =
