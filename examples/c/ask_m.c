@@ -53,9 +53,13 @@ int main(void)
 {
     struct strumelka_answer answer = strumelka_check_net(OBJECTS, KINDS, net, net_len);
     if (answer.number != STRUMELKA_NUMBER_DONE) {
-        printf("net %u %u\n", (unsigned)answer.number, (unsigned)answer.first);
+        printf("net %u %u %u\n", (unsigned)answer.number, (unsigned)answer.first, (unsigned)answer.second);
         return 1;
     }
+    /* A tail outside the net, and an object as the head. */
+    if (strumelka_check_word(OBJECTS, KINDS, STRUMELKA_WORD(OBJECTS + KINDS, OBJECTS, STRUMELKA_IS)).second != STRUMELKA_CAUSE_TAIL
+        || strumelka_check_word(OBJECTS, KINDS, STRUMELKA_WORD(0, 0, STRUMELKA_IS)).second != STRUMELKA_CAUSE_HEAD)
+        return 1;
     for (size_t i = 0; i < sizeof questions / sizeof questions[0]; i++)
         ask(questions[i][0], questions[i][1]);
     return reason_against(0, 5);

@@ -28,10 +28,15 @@ pub clash-kind : clashedBy 0 1 (1 ∷ []) (255 ∷ 254 ∷ []) ≡ clashOutcome 
 unfolding firstClash firstBoth legalPrefix rounds same round command links link mark
 clash-kind = refl
 
--- The smallest node and then its smallest kind: 1 clashes at 3 and 4, and so does 2.
+-- The smallest node and then its smallest kind: 1 clashes at 3 and 4, 2 at 3.
 pub clash-smallest : clashedBy 3 2 (2054 ∷ 2055 ∷ 2056 ∷ 2057 ∷ 4102 ∷ 4103 ∷ []) (1 ∷ 2 ∷ 3 ∷ 4 ∷ 5 ∷ 6 ∷ []) ≡ clashOutcome (clashed.At 1 3) (0 ∷ 0 ∷ 0 ∷ 0 ∷ 0 ∷ 6 ∷ [])
 unfolding firstClash firstBoth legalPrefix rounds same round command links link mark
 clash-smallest = refl
+
+-- Not the smallest kind of all: 0 clashes at 3 alone, and 1 at 2.
+pub clash-kind-of-node : clashedBy 2 2 (6 ∷ 7 ∷ 2052 ∷ 2053 ∷ []) (9 ∷ 9 ∷ 9 ∷ 9 ∷ 77 ∷ []) ≡ clashOutcome (clashed.At 0 3) (0 ∷ 0 ∷ 0 ∷ 0 ∷ 77 ∷ [])
+unfolding firstClash firstBoth legalPrefix rounds same round command links link mark
+clash-kind-of-node = refl
 
 -- A kind clashes where no object does: 2 is and is not 1.
 pub clash-of-kinds : clashedBy 1 2 (4098 ∷ 4099 ∷ []) (9 ∷ 9 ∷ 9 ∷ 77 ∷ []) ≡ clashOutcome (clashed.At 2 1) (0 ∷ 0 ∷ 0 ∷ 77 ∷ [])

@@ -78,7 +78,7 @@ fn cause_of(n: usize, word: u32) -> Cause
     Cause::Head
 }
 
-// The refusal of an illegal word at the place `index`.
+// The refusal of the word at `index`. That it is illegal is for the caller to know: of a legal one it would say cause 2.
 pub fn refuse_word(n: usize, index: u32, word: u32) -> Refusal
     ensures { λ r. ⌜ r ≡ illegalAt n index word ⌝ }
 {
@@ -99,7 +99,7 @@ pub fn first_illegal(o: usize, n: usize, words: &[u32]) -> usize
     i
 }
 
-// The check of a net that every operation begins with.
+// The check of a net, with which every operation on one begins.
 pub fn check_net(o: u32, k: u32, words: &[u32]) -> Checked
     ensures { λ r. ⌜ r ≡ checkNet o k (now (words .entry)) ⌝ }
 {

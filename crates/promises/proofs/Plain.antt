@@ -1,18 +1,21 @@
--- The number tables of the check of a net, the scans, the clash test and the completion read aloud: each number in plain terms. The question, the
+-- The number tables of the test of a word, the check of a net, the scans, the clash test and the completion read aloud: each number in plain terms. The question, the
 -- reason and the reason check stand in `PlainAsked`.
 use Prim.Native.Nat.{ℕ, _+_, _≤_, _<_}
-use mathlib.Core.Path.{_≡_, refl, ap, subst}
-use mathlib.Core.Bool.{true, false}
+use mathlib.Core.Path.{_≡_, refl, sym, ap, subst, _∙_}
+use mathlib.Core.Bool.{Bool, true, false, not}
 use mathlib.Core.List.{List, _∷_}
 use mathlib.Core.Logic.{_↔_}
 use lib.Dec.{ltb}
 use lib.ListN.{length}
-use borrow.Author.Tests.{ltb-false, le-ltb}
+use borrow.Author.Tests.{ltb-true, ltb-false, lt-ltb, le-ltb, not-true, not-false}
 use Rattle.theory.specs.Words.{nodeLimit, wordLimit}
-use Rattle.theory.specs.Nets.{Kind, Net}
+use Rattle.theory.specs.Nets.{Kind, Net, LegalWord}
 use Rattle.theory.specs.Marks.{forward, kindly, forwardStart, kindStart}
 use Rattle.theory.specs.Scans.{Count}
-use Rattle.net.specs.Legal.{legalPrefix}
+use Rattle.theory_laws.proofs.Booleans.{contradiction}
+use Rattle.net.specs.Legal.{legal, legalPrefix}
+use Rattle.net.proofs.Legality.{legal-means}
+use Rattle.check_word.specs.Table.{checkWord}
 use Rattle.net.specs.Clauses.{Clause, clause}
 use Rattle.net.specs.Table.{checkNet}
 use Rattle.net.specs.FirstIllegal.{FirstIllegal}
@@ -21,11 +24,11 @@ use Rattle.theory.specs.Completion.{Lists, complete}
 use Rattle.theory.proofs.completion.Completing.{complete-lists, lists-unique}
 use Rattle.clash.specs.Table.{clashedBy}
 use Rattle.completion.specs.Table.{completedBy}
-use Rattle.promises.specs.Numbers.{checkedNumber, scanNumber, clashNumber, completionNumber}
+use Rattle.promises.specs.Numbers.{wordNumber, checkedNumber, scanNumber, clashNumber, completionNumber}
 use Rattle.promises.specs.Tables.{Obeys}
 use Rattle.promises.specs.Clashing.{ClashAt}
 use Rattle.promises.proofs.Clashes.{some-clash-exactly}
-use Rattle.promises.proofs.Demand1.{net-obeys, forward-obeys, kind-obeys, clash-obeys, completion-obeys}
+use Rattle.promises.proofs.Demand1.{word-obeys, net-obeys, forward-obeys, kind-obeys, clash-obeys, completion-obeys}
 use Rattle.promises.proofs.Tests.{clause-1, clause-2, clause-3, past-clause-3, node-exactly, clause-4-start, kind-exactly, clause-4-kind, clause-5, within-exactly, clause-6, clause-7-clash, clause-8}
 
 -- One way of saying it, then another.
@@ -73,6 +76,31 @@ module _ {A : Type 0} {number : A → ℕ} {a b c : A} {rest : List (Clause A)} 
   -- 3: nodes and words are few enough, and there is a first illegal word.
   pub number-3 : (number r ≡ 3) ↔ ((o + k ≤ 1024) × ((length ws ≤ 2097152) × FirstIllegal o k ws (legalPrefix o (o + k) ws)))
   number-3 = then (h .exactly 3) (both (at-least nodeLimit (o + k)) (both (at-least wordLimit (length ws)) (clause-3 o k ws)))
+
+-- ── the test of a word ──
+
+module _ (o k w : ℕ) where
+  passes-exactly : (not (legal o (o + k) w) ≡ false) ↔ LegalWord o k w
+  passes-exactly = ((λ e. legal-means o k w .0 (not-false _ e)), λ l. rw (legal-means o k w .1 l))
+
+  fails-exactly : (not (legal o (o + k) w) ≡ true) ↔ (LegalWord o k w → ⊥)
+  fails-exactly = ((λ e l. contradiction (sym (not-true _ e) ∙ legal-means o k w .1 l)), λ h. at (legal o (o + k) w) refl h)
+    where
+      at : (q : Bool) → legal o (o + k) w ≡ q → (LegalWord o k w → ⊥) → not q ≡ true
+      at true e h = absurd (h (legal-means o k w .0 e))
+      at false e h = refl
+
+  -- 1: there are more than 1,024 nodes.
+  pub word-1 : (wordNumber (checkWord o k w) ≡ 1) ↔ (1024 < o + k)
+  word-1 = then (word-obeys o k w .exactly 1) (ltb-true nodeLimit (o + k), lt-ltb nodeLimit (o + k))
+
+  -- 3: the nodes are few enough, and the word is illegal.
+  pub word-3 : (wordNumber (checkWord o k w) ≡ 3) ↔ ((o + k ≤ 1024) × (LegalWord o k w → ⊥))
+  word-3 = then (word-obeys o k w .exactly 3) (both (at-least nodeLimit (o + k)) fails-exactly)
+
+  -- 0: the nodes are few enough, and the word is legal.
+  pub word-0 : (wordNumber (checkWord o k w) ≡ 0) ↔ ((o + k ≤ 1024) × LegalWord o k w)
+  word-0 = then (word-obeys o k w .exactly 0) (both (at-least nodeLimit (o + k)) (first-only passes-exactly))
 
 -- ── the check of a net ──
 

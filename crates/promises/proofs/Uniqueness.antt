@@ -80,10 +80,11 @@ module _ (o k : ℕ) (ws : List ℕ) where
   pub check-unique : (x y sign : ℕ) (list : List ℕ) (r q : Verdict) → r ≡ verdict o k ws x y sign list → q ≡ verdict o k ws x y sign list → r ≡ q
   check-unique x y sign list r q e f = both-are r q e f
 
--- The check of a net, which is lent nothing to write to either.
+-- The test of a word, which is lent nothing.
 pub word-unique : (o k w : ℕ) (r q : WordChecked) → r ≡ checkWord o k w → q ≡ checkWord o k w → r ≡ q
 word-unique o k w r q e f = both-are r q e f
 
+-- The check of a net, which is lent nothing to write to either.
 pub net-unique : (o k : ℕ) (ws : List ℕ) (r q : Checked) → r ≡ checkNet o k ws → q ≡ checkNet o k ws → r ≡ q
 net-unique o k ws r q e f = both-are r q e f
 

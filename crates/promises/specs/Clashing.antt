@@ -2,8 +2,9 @@
 use Prim.Native.Nat.{ℕ, _+_, _≤_, _<_}
 use mathlib.Core.Path.{_≡_}
 use mathlib.Core.List.{List}
+use lib.ListN.{length}
 use Rattle.theory.specs.Words.{is, isnt}
-use Rattle.theory.specs.Nets.{Kind, Links}
+use Rattle.theory.specs.Nets.{Kind, Links, Net}
 use Rattle.theory.specs.Support.{Supported}
 use Rattle.clash.specs.declared.Clashed.the-variants as clashed
 use Rattle.promises.specs.Engines.{Engine}
@@ -27,3 +28,6 @@ pub record Clashing (e : Engine) : Type 0 where
   pub at : (o k : ℕ) (ws m : List ℕ) (x y : ℕ) → e .clashTest o k ws m .answer ≡ clashed.At x y → SmallestClash o k ws x y
   -- Number 7: there is none.
   pub nowhere : (o k : ℕ) (ws m : List ℕ) → e .clashTest o k ws m .answer ≡ clashed.Nowhere → (x y : ℕ) → ClashAt o k ws x y → ⊥
+  -- Over a net, and with marks long enough, the smallest clash is given, and number 7 where there is none.
+  pub given : (o k : ℕ) (ws m : List ℕ) → Net o k ws → o + k ≤ length m → (x y : ℕ) → SmallestClash o k ws x y → e .clashTest o k ws m .answer ≡ clashed.At x y
+  pub none : (o k : ℕ) (ws m : List ℕ) → Net o k ws → o + k ≤ length m → ((x y : ℕ) → ClashAt o k ws x y → ⊥) → e .clashTest o k ws m .answer ≡ clashed.Nowhere

@@ -1,4 +1,4 @@
--- Demand 1: whatever numbers and buffers it is lent, each operation on a net gives the number that is due by its table and leaves each buffer as that clause says.
+-- Demand 1: whatever numbers and buffers it is lent, each operation on a word or a net gives the number that is due by its table and leaves each buffer as that clause says.
 use Prim.Native.Nat.{ℕ, _+_}
 use mathlib.Core.Bool.{true, false}
 use mathlib.Core.List.{List}

@@ -40,7 +40,7 @@ fn on_words(engine: Engine, n: Numbers, words: &[u32]) -> Reply {
     }
 }
 
-// The check of a word.
+// The test of a word.
 fn on_word(engine: Engine, n: Numbers) -> Reply {
     match engine {
         Engine::Proved => proved::on_word(n),

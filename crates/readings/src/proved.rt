@@ -23,7 +23,7 @@ pub fn on_words(n: Numbers, words: &[u32]) -> Reply {
     reply_given(strumelka_check_net(n.o, n.k, words))
 }
 
-// The check of a word.
+// The test of a word.
 pub fn on_word(n: Numbers) -> Reply {
     reply_given(strumelka_check_word(n.o, n.k, n.x))
 }
