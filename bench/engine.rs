@@ -22,7 +22,7 @@ impl Answer {
 /// The functions, over slices.
 pub struct Engine {
     pub check_net: fn(o: u32, k: u32, words: &[u32]) -> Answer,
-    pub forward_scan:
+    pub scan:
         fn(o: u32, k: u32, words: &[u32], start: u32, budget: u32, marks: &mut [u8]) -> Answer,
     pub question: fn(o: u32, k: u32, words: &[u32], x: u32, y: u32, marks: &mut [u8]) -> Answer,
     pub completion: fn(o: u32, k: u32, words: &[u32], marks: &mut [u8], list: &mut [u32]) -> Answer,

@@ -28,7 +28,7 @@ const MOST_TURNS: usize = 40;
 #[derive(Clone, Copy)]
 enum Operation {
     CheckNet,
-    ForwardScan,
+    Scan,
     Question,
     Reason,
     Completion,
@@ -36,7 +36,7 @@ enum Operation {
 
 const OPERATIONS: [(Operation, &str); 5] = [
     (Operation::CheckNet, "check of the net"),
-    (Operation::ForwardScan, "forward scan"),
+    (Operation::Scan, "scan"),
     (Operation::Question, "question"),
     (Operation::Reason, "reason"),
     (Operation::Completion, "completion"),
@@ -79,7 +79,7 @@ fn main() {
             random_shape(24, 1000, 200_000),
         ],
     );
-    println!("\nHow a forward scan's time grows with words (random links on 1,024 nodes):\n");
+    println!("\nHow a scan's time grows with words (random links on 1,024 nodes):\n");
     let sizes = [1_000, 4_000, 16_000, 64_000, 256_000, 1_024_000];
     print_growth(ratios, &sizes.map(|size| random_shape(24, 1000, size)));
     println!("\nHow it grows with depth (a chain, scanned from its first node):\n");
@@ -150,7 +150,7 @@ fn print_growth(ratios: bool, shapes: &[Shape]) {
     );
     println!("|---|---|{}---|", if ratios { "" } else { "---|---|" });
     for shape in shapes {
-        let best = measure(shape, Operation::ForwardScan);
+        let best = measure(shape, Operation::Scan);
         let rounds = best.answer.first;
         let each = best.proved / (rounds as f64 * shape.net.words.len() as f64);
         let times = if ratios {
@@ -259,7 +259,7 @@ fn call(engine: &Engine, operation: Operation, shape: &Shape, room: &mut Room) -
     let (o, k, x, y, sign) = (*o, *k, *x, *y, *sign);
     match operation {
         Operation::CheckNet => (engine.check_net)(o, k, words),
-        Operation::ForwardScan => (engine.forward_scan)(o, k, words, x, u32::MAX, &mut room.marks),
+        Operation::Scan => (engine.scan)(o, k, words, x, u32::MAX, &mut room.marks),
         Operation::Question => (engine.question)(o, k, words, x, y, &mut room.marks),
         Operation::Reason => (engine.reason)(
             o,

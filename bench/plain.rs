@@ -14,11 +14,12 @@ const CAUSE_HEAD: u32 = 2;
 
 const T: u8 = 1;
 const F: u8 = 2;
+const U: u8 = 4;
 
 /// The functions of this file.
 pub const ENGINE: Engine = Engine {
     check_net,
-    forward_scan,
+    scan,
     question,
     completion,
     reason,
@@ -42,17 +43,10 @@ fn check_net(o: u32, k: u32, words: &[u32]) -> Answer {
     on_net(o, k, words, |net| Ok(Answer::new(0, net.nodes as u32, 0)))
 }
 
-fn forward_scan(
-    o: u32,
-    k: u32,
-    words: &[u32],
-    start: u32,
-    budget: u32,
-    marks: &mut [u8],
-) -> Answer {
+fn scan(o: u32, k: u32, words: &[u32], start: u32, budget: u32, marks: &mut [u8]) -> Answer {
     on_net(o, k, words, |net| {
         let x = net.node(start)?;
-        let (ended, count) = net.scan_forward(x, budget, net.places(1, marks)?);
+        let (ended, count) = net.scan(x, budget, net.places(1, marks)?);
         Ok(Answer::new(if ended { 0 } else { 6 }, count, 0))
     })
 }
@@ -62,7 +56,7 @@ fn question(o: u32, k: u32, words: &[u32], x: u32, y: u32, marks: &mut [u8]) -> 
         let (x, y) = (net.node(x)?, net.kind(y)?);
         let marks = net.places(1, marks)?;
         let count = net.scan_whole(x, marks);
-        Ok(Answer::new(0, marks[y] as u32, count))
+        Ok(Answer::new(0, answer(marks[y]), count))
     })
 }
 
@@ -182,22 +176,23 @@ impl<'a> Net<'a> {
         }
     }
 
-    /// Rounds of the forward scan from `x` until one sets nothing, and whether that was within the budget.
-    fn scan_forward(&self, x: usize, budget: u32, marks: &mut [u8]) -> (bool, u32) {
+    /// Rounds of the scan from `x` until one sets nothing: whether that was within the budget, and how many were run.
+    fn scan(&self, x: usize, budget: u32, marks: &mut [u8]) -> (bool, u32) {
         marks.fill(0);
-        marks[x] = T;
+        marks[x] = T | U;
         run_rounds(budget, || {
-            command::<0, false, T, T>(self.words, marks)
+            command::<0, true, T, T>(self.words, marks)
+                | command::<0, false, U, U>(self.words, marks)
                 | command::<0, true, F, F>(self.words, marks)
-                | command::<1, false, T, F>(self.words, marks)
-                | command::<1, true, T, F>(self.words, marks)
+                | command::<1, false, U, F>(self.words, marks)
+                | command::<1, true, U, F>(self.words, marks)
         })
     }
 
-    /// The forward scan with a budget that no net spends.
+    /// The scan with a budget that no net spends.
     fn scan_whole(&self, x: usize, marks: &mut [u8]) -> u32 {
-        let (ended, count) = self.scan_forward(x, 2 * self.nodes as u32, marks);
-        assert!(ended, "a forward scan takes at most 2N rounds");
+        let (ended, count) = self.scan(x, 3 * self.nodes as u32 - 1, marks);
+        assert!(ended, "a scan takes at most 3N - 1 rounds");
         count
     }
 
@@ -207,7 +202,9 @@ impl<'a> Net<'a> {
         for x in 0..self.nodes {
             self.scan_whole(x, marks);
             let kinds = marks[self.objects..].iter();
-            size += kinds.map(|byte| byte.count_ones() as usize).sum::<usize>();
+            size += kinds
+                .map(|byte| (byte & (U | F)).count_ones() as usize)
+                .sum::<usize>();
         }
         size
     }
@@ -219,7 +216,7 @@ impl<'a> Net<'a> {
         for x in 0..self.nodes {
             self.scan_whole(x, marks);
             for y in self.objects..self.nodes {
-                if marks[y] & T != 0 {
+                if marks[y] & U != 0 {
                     write(x * 2048 + y * 2);
                 }
                 if marks[y] & F != 0 {
@@ -292,6 +289,11 @@ impl<'a> Net<'a> {
             list[at] = (state % self.nodes) as u16;
         }
     }
+}
+
+/// What a kind's byte answers about the start of the scan: U is yes, F is no.
+fn answer(byte: u8) -> u32 {
+    (byte & U != 0) as u32 + 2 * (byte & F != 0) as u32
 }
 
 /// One command: each link of the sign with TEST at the tail, or with UP at the head, puts PUT at its other end. The

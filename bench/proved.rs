@@ -10,7 +10,7 @@ mod c {
 
     extern "C" {
         pub fn strumelka_check_net(o: u32, k: u32, words: *const u32, words_len: usize) -> Answer;
-        pub fn strumelka_forward_scan(
+        pub fn strumelka_scan(
             o: u32,
             k: u32,
             words: *const u32,
@@ -59,7 +59,7 @@ mod c {
 /// The functions of the archive.
 pub const ENGINE: Engine = Engine {
     check_net,
-    forward_scan,
+    scan,
     question,
     completion,
     reason,
@@ -69,16 +69,9 @@ fn check_net(o: u32, k: u32, words: &[u32]) -> Answer {
     unsafe { c::strumelka_check_net(o, k, words.as_ptr(), words.len()) }
 }
 
-fn forward_scan(
-    o: u32,
-    k: u32,
-    words: &[u32],
-    start: u32,
-    budget: u32,
-    marks: &mut [u8],
-) -> Answer {
+fn scan(o: u32, k: u32, words: &[u32], start: u32, budget: u32, marks: &mut [u8]) -> Answer {
     unsafe {
-        c::strumelka_forward_scan(
+        c::strumelka_scan(
             o,
             k,
             words.as_ptr(),

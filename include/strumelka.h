@@ -104,8 +104,10 @@ struct strumelka_answer strumelka_check_word(uint32_t o, uint32_t k, uint32_t wo
 struct strumelka_answer strumelka_check_net(
     uint32_t o, uint32_t k, const uint32_t *words, size_t words_len);
 
-/* The forward scan from node start, within budget rounds. Afterwards T at a kind means that start is of that kind, F
- * that it is not; the bytes of objects say nothing.
+/* The scan from node start, an object or a kind, within budget rounds. T and U begin on start. Afterwards U at a kind
+ * means that start is of that kind, and F at a kind that it is not. Where start is a kind, T at any node means that the
+ * node is of kind start, and F that it is not. Where start is an object, T stays on start alone, and the bytes of objects
+ * say nothing.
  *   0        the scan ended; first = the rounds run, the last one, which set nothing, among them; the first o + k bytes
  *            of marks are the scan's
  *   1, 2, 3  as in strumelka_check_net
@@ -113,22 +115,14 @@ struct strumelka_answer strumelka_check_net(
  *   5        marks_len is below STRUMELKA_MARKS(o, k); marks unchanged
  *   6        the scan needs more rounds than budget; first = budget; marks after exactly that many rounds. What they
  *            say holds, and more may follow
- * A budget of 2 * (o + k) is always enough. */
-struct strumelka_answer strumelka_forward_scan(
-    uint32_t o, uint32_t k, const uint32_t *words, size_t words_len,
-    uint32_t start, uint32_t budget, uint8_t *marks, size_t marks_len);
-
-/* The kind scan from kind start, within budget rounds. Afterwards T at a node means that the node is of kind start, F
- * that it is not, and U at a kind that start is of that kind.
- *   0 to 6   as in strumelka_forward_scan; 4 also where start is an object
- * A budget of 3 * (o + k) is always enough. */
-struct strumelka_answer strumelka_kind_scan(
+ * A scan takes at most 3 * (o + k) - 1 rounds, so that a budget of that many is always enough. */
+struct strumelka_answer strumelka_scan(
     uint32_t o, uint32_t k, const uint32_t *words, size_t words_len,
     uint32_t start, uint32_t budget, uint8_t *marks, size_t marks_len);
 
 /* The question whether node x is of kind y.
- *   0        first = STRUMELKA_ANSWER_NONE, _YES, _NO or _BOTH; second = the rounds of the forward scan from x, whose
- *            marks are left in the first o + k bytes
+ *   0        first = STRUMELKA_ANSWER_NONE, _YES, _NO or _BOTH; second = the rounds of the scan from x, whose marks
+ *            are left in the first o + k bytes
  *   1, 2, 3  as in strumelka_check_net
  *   4        x is no node, or y is no kind; marks unchanged
  *   5        marks_len is below STRUMELKA_MARKS(o, k); marks unchanged */

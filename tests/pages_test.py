@@ -1,8 +1,9 @@
 #!/usr/bin/env python3
 """The pages name what is there: theorems in the file that their row names, definitions in some specs/, functions in their crate, edits
-and their counts, files that links lead to, and any other name of the repository somewhere in it.
+and their counts, files that links lead to, and any other name of the repository somewhere in it. And nothing on them stands for
+what is still to be written.
 
-    python3 tests/pages_test.py        prints `pages: ok`, or each name that is not there, and then exits with status 1
+    python3 tests/pages_test.py        prints `pages: ok`, or each name that is not there and each placeholder, and then exits with status 1
 """
 import pathlib
 import re
@@ -14,6 +15,11 @@ PAGES = [*ROOT.glob("*.md"), *ROOT.glob("docs/**/*.md"), *ROOT.glob("nets/*.md")
 NAMED = re.compile(r"`([^`\s]+)`")
 THEOREM_FILE = re.compile(r"`((?:[a-z_]+/)*[A-Za-z0-9]+\.antt)`")
 THEOREM = re.compile(r"[a-z][\w′-]*")
+
+# What stands for something that is still to be written: words anywhere, and marks that fill a cell of a table. An empty cell says
+# that there is nothing, or what the cell above says.
+PLACEHOLDER = re.compile(r"\b(?:TODO|TBD|FIXME|XXX)\b|\?\?+|\bto\s+be\s+(?:measured|filled\s+in)\b", re.IGNORECASE)
+MARK_ALONE = re.compile(r"\?|…|\.\.\.?")
 
 # How far a count of lines may be from what READING says.
 LINES_OFF = 5
@@ -42,6 +48,11 @@ def fields(record):
     return set()
 
 
+def cells_of(line):
+    """The cells of a line of a table."""
+    return [cell.strip() for cell in re.split(r"(?<!\\)\|", line)[1:-1]]
+
+
 def tables(page):
     """The rows of a page's tables: number of the line, the section, and the cells by the header of the table."""
     header, section = None, ""
@@ -51,7 +62,7 @@ def tables(page):
         if not line.startswith("|"):
             header = None
             continue
-        cells = [cell.strip() for cell in re.split(r"(?<!\\)\|", line)[1:-1]]
+        cells = cells_of(line)
         if header is None:
             header = cells
         elif not set("".join(cells)) <= set("-: "):
@@ -177,9 +188,20 @@ def names(wrong):
                     wrong.append(f"{page.relative_to(ROOT)}:{number}: nothing is called {name}")
 
 
+def placeholders(wrong):
+    for page in PAGES:
+        for found in PLACEHOLDER.finditer(text(page)):
+            number = text(page).count("\n", 0, found.start()) + 1
+            wrong.append(f"{page.relative_to(ROOT)}:{number}: `{' '.join(found[0].split())}` stands for what is still to be written")
+        for number, line in enumerate(text(page).splitlines(), 1):
+            for cell in cells_of(line) if line.startswith("|") else []:
+                if MARK_ALONE.fullmatch(cell):
+                    wrong.append(f"{page.relative_to(ROOT)}:{number}: a cell `{cell}` stands for what is still to be written")
+
+
 def main():
     wrong = []
-    for look in (reading, tightness, links, names):
+    for look in (reading, tightness, links, names, placeholders):
         look(wrong)
     print("\n".join(wrong) if wrong else "pages: ok")
     sys.exit(bool(wrong))

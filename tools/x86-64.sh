@@ -5,8 +5,10 @@
 #   run_built PROGRAM ARG..       runs what one of the two built
 #   run_proved NAME               runs the program of the crate NAME, which rt has built
 #   emulated                      whether the code is emulated, so that its times say nothing
-#   x86_64_lacks                  prints what is missing for all this, or nothing
-#   install_x86_64                installs what is missing, where it can; asked for by `--install`, or where CI is set
+#   lacking TOOL..                prints those that are not there, a line for each
+#   c_lacks, rust_lacks           print what is missing to build and run a C program, or a Rust program; a line for each
+#   can_run WHAT LACKS..          whether nothing is missing for it. What is missing is told in a line `not run: WHAT, ..`
+#   install_x86_64                installs what is missing, or says what it could not; asked for by `--install`, or where CI is set
 
 archive=target/staticlib/libstrumelka.a
 built=target/library
@@ -31,30 +33,62 @@ emulated() {
     [ "$(uname -m)" != x86_64 ]
 }
 
-# The tools that are not there, and the Rust library for x86-64 where it is not.
-x86_64_lacks() {
-    local tool missing=()
-    for tool in "${rust_compiler[0]}" "${c_compiler[0]}" "${runner[@]:0:1}"; do
-        command -v "$tool" >/dev/null || missing+=("$tool")
+lacking() {
+    local tool
+    for tool in "$@"; do
+        command -v "$tool" >/dev/null || echo "$tool"
     done
-    if [ ${#missing[@]} = 0 ] && ! ls "$("${rust_compiler[@]}" --print target-libdir)"/libstd-* >/dev/null 2>&1; then
-        missing+=("Rust's library for x86-64")
+}
+
+c_lacks() {
+    lacking "${c_compiler[0]}" "${runner[@]:0:1}"
+}
+
+# Rust links by the C compiler.
+rust_lacks() {
+    lacking "${rust_compiler[0]}"
+    if command -v "${rust_compiler[0]}" >/dev/null && ! ls "$("${rust_compiler[@]}" --print target-libdir)"/libstd-* >/dev/null 2>&1; then
+        echo "Rust's library for x86-64"
     fi
-    echo "${missing[*]}"
+    c_lacks
+}
+
+can_run() {
+    local what=$1 missing
+    shift
+    missing=$(printf '%s\n' "$@" | sed '/^$/d' | paste -sd, | sed 's/,/, /g')
+    if [ -n "$missing" ]; then
+        echo "not run: $what, for want of $missing"
+        return 1
+    fi
 }
 
 # Debian's compilers for x86-64, its Rust library for x86-64 and, on another processor, its emulator.
 install_x86_64() {
-    [ -n "$(x86_64_lacks)" ] || return 0
-    if [ "$(id -u)" != 0 ] || ! command -v apt-get >/dev/null; then
-        return 0
-    fi
+    [ -n "$(rust_lacks)" ] || return 0
     local packages=(rustc gcc libc6-dev)
     if emulated; then
         packages=(rustc libstd-rust-dev:amd64 gcc-x86-64-linux-gnu libc6-dev-amd64-cross qemu-user)
-        dpkg --add-architecture amd64
     fi
-    { apt-get update && apt-get install -y --no-install-recommends "${packages[@]}"; } >&2 || true
+    if [ "$(id -u)" != 0 ] || ! command -v apt-get >/dev/null; then
+        echo "could not install ${packages[*]}: that takes root and apt-get" >&2
+        return 1
+    fi
+    if ! apt_install "${packages[@]}" >&2; then
+        echo "could not install ${packages[*]}" >&2
+        return 1
+    fi
+    if [ -n "$(rust_lacks)" ]; then
+        echo "installed ${packages[*]}, and still could not find $(rust_lacks | paste -sd' ')" >&2
+        return 1
+    fi
+}
+
+apt_install() {
+    if emulated; then
+        dpkg --add-architecture amd64 || return
+    fi
+    apt-get update && apt-get install -y --no-install-recommends "$@"
 }
 
 c_flags=(-std=c11 -Wall -Wextra -Werror -O2 -I include)

@@ -167,7 +167,7 @@ fn draw_budget(random: &mut Random, count: u32, nodes: u32) -> u32 {
         count + 1,
         count.saturating_sub(1),
         part,
-        2 * nodes,
+        (3 * nodes).saturating_sub(1),
         3 * nodes,
         u32::MAX,
     ])

@@ -15,7 +15,7 @@ struct operation {
     const char *name;
     /* The kinds of its fields, in the order of the case and of the C parameters: fields.rs says what each is. */
     const char *fields;
-    /* What a long run has to meet: a number of the table, or N=V for number N with the first value V. */
+    /* What a long run has to meet: a number of the table, N=V for number N with the first value V, or N=V,W with both values. */
     const char *outcomes;
     /* Whether one of the engines works from every node for it, so that it is rarely drawn for a large net. */
     bool from_every_node;
@@ -31,13 +31,11 @@ struct operation {
 
 /* Name, fields, outcomes, from every node; then the arguments of the C function. */
 #define EXPORTED(_)                                                                 \
-    _(check_word, "o k word", "0 1 3", false,                                       \
+    _(check_word, "o k word", "0 1 3=0,1 3=0,2", false,                             \
       NUMBER(0), NUMBER(1), NUMBER(2))                                              \
     _(check_net, "o k words", "0 1 2 3", false,                                     \
       NET)                                                                          \
-    _(forward_scan, "o k words node budget marks", "0 1 2 3 4 5 6", false,          \
-      NET, NUMBER(3), NUMBER(4), BYTES(5))                                          \
-    _(kind_scan, "o k words kind budget marks", "0 1 2 3 4 5 6", false,             \
+    _(scan, "o k words node budget marks", "0 1 2 3 4 5 6", false,                  \
       NET, NUMBER(3), NUMBER(4), BYTES(5))                                          \
     _(question, "o k words node kind marks", "0=0 0=1 0=2 0=3 1 2 3 4 5", true,     \
       NET, NUMBER(3), NUMBER(4), BYTES(5))                                          \

@@ -31,11 +31,12 @@ extern "C" {
     static operations_len: usize;
 }
 
-/// A number of the table that an operation can give, with the first value where one is asked for.
+/// A number of the table that an operation can give, with the values that are asked for.
 #[derive(Clone, Copy, PartialEq, Eq)]
 pub struct Met {
     pub number: u32,
     pub first: Option<u32>,
+    pub second: Option<u32>,
 }
 
 /// An operation.
@@ -72,14 +73,10 @@ fn text(start: *const c_char) -> &'static str {
 
 fn read_outcome(text: &str) -> Met {
     let number = |text: &str| text.parse().expect("outcomes are numbers");
-    match text.split_once('=') {
-        Some((left, right)) => Met {
-            number: number(left),
-            first: Some(number(right)),
-        },
-        None => Met {
-            number: number(text),
-            first: None,
-        },
+    let mut numbers = text.split(['=', ',']).map(number);
+    Met {
+        number: numbers.next().expect("an outcome has a number"),
+        first: numbers.next(),
+        second: numbers.next(),
     }
 }

@@ -11,13 +11,17 @@ pub struct Tally<'a> {
 
 impl Met {
     fn is_met_by(self, answer: Answer) -> bool {
-        self.number == answer.number && self.first.map_or(true, |first| first == answer.first)
+        self.number == answer.number
+            && self.first.map_or(true, |first| first == answer.first)
+            && self.second.map_or(true, |second| second == answer.second)
     }
 
+    /// As the table has it.
     fn text(self) -> String {
-        match self.first {
-            Some(first) => format!("{}={}", self.number, first),
-            None => self.number.to_string(),
+        match (self.first, self.second) {
+            (Some(first), Some(second)) => format!("{}={},{}", self.number, first, second),
+            (Some(first), None) => format!("{}={}", self.number, first),
+            _ => self.number.to_string(),
         }
     }
 }

@@ -1,6 +1,5 @@
 // What follows x and y in a question's line: the answer and its count, or `refused` and a number.
 ghost use Prim.Native.Nat.{_≤_};
-ghost use mathlib.Core.Path.{_≡_};
 ghost use mathlib.Core.List.{_++_, _∷_, []};
 ghost use lib.ListN.{length};
 ghost use Rattle.text_field.specs.Writing.{Wrote};

@@ -39,8 +39,8 @@ pub fn answer_net(o: u32, k: u32, words: &[u32], questions: &[u8], text: &mut [u
     match checked {
         Checked::Nodes(_) => put_lines(o, k, words, questions, text),
         Checked::Refused(refusal) => {
-            let row = refusal_given(refusal);
-            put_refused_net(text, row.number, row.first, row.second)
+            let reply = refusal_given(refusal);
+            put_refused_net(text, reply.number, reply.first, reply.second)
         }
     }
 }

@@ -3,14 +3,13 @@ use Prim.Native.Nat.{ℕ, _+_, _<_, _≤_}
 use mathlib.Core.Path.{_≡_, refl, sym, ap, _∙_}
 use mathlib.Core.Bool.{Bool, true, false, cond, not}
 use mathlib.Core.Logic.{_↔_}
-use native.Mathlib.Omega.{arith}
 use borrow.Author.Tests.{ltb-true, lt-ltb, le-ltb, eqb-false}
 use lib.Dec.{ltb, eqb}
 use Rattle.theory_laws.proofs.Booleans.{contradiction}
 use Rattle.theory.specs.Words.{nodeLimit}
 use Rattle.theory.specs.Nets.{LegalWord}
 use Rattle.net.specs.Legal.{legal, Because, causeOf}
-use Rattle.net.specs.Table.{refusalReply, causeNumber, illegalAt}
+use Rattle.net.specs.Table.{illegalAt}
 use Rattle.net.specs.declared.Cause.{Cause}
 use Rattle.net.specs.declared.Refusal.the-variants.{TooManyNodes, IllegalWord}
 use Rattle.net.proofs.Legality.{legal-means}

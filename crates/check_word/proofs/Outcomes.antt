@@ -1,6 +1,6 @@
 -- Each answer of the test of a word, in the terms of the code.
 use Prim.Native.Nat.{ℕ, _+_, _<_, _≤_}
-use mathlib.Core.Path.{_≡_, refl}
+use mathlib.Core.Path.{_≡_}
 use mathlib.Core.Bool.{true, false}
 use borrow.Author.Tests.{lt-ltb, le-ltb}
 use Rattle.theory.specs.Words.{nodeLimit}

@@ -25,7 +25,7 @@ clashOutcome r m = record { answer = r; marks = m }
 abbrev pub clashNodes : ℕ → ℕ → ℕ
 clashNodes o k = o + k
 
--- The first of j kinds from y on that has both marks, or the one after them.
+-- The first of j kinds from y on at which yes and no stand both, or the one after them.
 unfoldable pub firstBoth : List ℕ → ℕ → ℕ → ℕ
 firstBoth m y zero = y
 firstBoth m y (suc j) = cond (saysYes (getD m y 0) && saysNo (getD m y 0)) y (firstBoth m (suc y) j)

@@ -18,7 +18,7 @@ pub enum Clashed {
     Refused(Refusal),
 }
 
-// The first kind below `n`, from `o` on, that has both marks, or `n`.
+// The first kind below `n`, from `o` on, at which yes and no stand both, or `n`.
 fn first_both(o: usize, n: usize, marks: &[u8]) -> usize
     requires { ⌜ (o ≤ n) × (n ≤ length (now marks)) ⌝ }
     ensures { λ r. ⌜ r ≡ firstBoth (now (marks .entry)) o (n - o) ⌝ }
@@ -26,7 +26,7 @@ fn first_both(o: usize, n: usize, marks: &[u8]) -> usize
     let mut y = o;
     while y < n {
         let byte = marks[y];
-        if byte % 4 == 3 {
+        if byte / 2 % 4 == 3 {
             return y;
         }
         y += 1;
@@ -71,7 +71,7 @@ fn clash_net(o: u32, k: u32, n: usize, words: &[u32], marks: &mut [u8]) -> Clash
     found
 }
 
-// Whether some node, object or kind, has both marks at some kind.
+// Whether some node, object or kind, has yes and no at some kind.
 pub fn find_clash(o: u32, k: u32, words: &[u32], marks: &mut [u8]) -> Clashed
     ensures { λ r. ⌜ clashOutcome r (now (marks .exit)) ≡ clashedBy o k (now (words .entry)) (now (marks .entry)) ⌝ }
 {

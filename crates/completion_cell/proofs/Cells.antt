@@ -9,7 +9,7 @@ use Rattle.theory_laws.specs.Over.{over}
 use Rattle.theory.specs.Words.{is, isnt, word}
 use Rattle.theory.specs.Marks.{saysYes, saysNo}
 use Rattle.theory.specs.Completion.{cell}
-use Rattle.theory.proofs.machine.Bytes.{has-T, no-T, has-F, no-F}
+use Rattle.theory.proofs.machine.Bytes.{has-U, no-U, has-F, no-F}
 
 -- One value, or two, written over the front of a list.
 put-one : (l : List ℕ) (v : ℕ) → 1 ≤ length l → set l 0 v ≡ over (v ∷ []) l
@@ -28,12 +28,12 @@ both-length false true v w = refl
 both-length false false v w = refl
 
 -- How a yes and a no count.
-count-yes : (b : ℕ) → cond (saysYes b) 1 0 ≡ b % 2
-count-yes b = at (b % 2) refl
+count-yes : (b : ℕ) → cond (saysYes b) 1 0 ≡ b / 4 % 2
+count-yes b = at (b / 4 % 2) refl
   where
-    at : (q : ℕ) → b % 2 ≡ q → cond (saysYes b) 1 0 ≡ b % 2
-    at zero e = rw (no-T b (λ (i : b % 2 ≡ 1). omega arith)) (omega arith)
-    at (suc q) e = rw (has-T b (omega arith)) (omega arith)
+    at : (q : ℕ) → b / 4 % 2 ≡ q → cond (saysYes b) 1 0 ≡ b / 4 % 2
+    at zero e = rw (no-U b (λ (i : b / 4 % 2 ≡ 1). omega arith)) (omega arith)
+    at (suc q) e = rw (has-U b (omega arith)) (omega arith)
 
 count-no : (b : ℕ) → cond (saysNo b) 1 0 ≡ b / 2 % 2
 count-no b = at (b / 2 % 2) refl
@@ -44,30 +44,30 @@ count-no b = at (b / 2 % 2) refl
 
 module _ (x y b : ℕ) where
   -- How many words they are.
-  pub cell-length : length (cell x y b) ≡ b % 2 + b / 2 % 2
-  cell-length = both-length (saysYes b) (saysNo b) (word x y is) (word x y isnt) ∙ ap (λ (i : ℕ). i + cond (saysNo b) 1 0) (count-yes b) ∙ ap (λ (i : ℕ). b % 2 + i) (count-no b)
+  pub cell-length : length (cell x y b) ≡ b / 4 % 2 + b / 2 % 2
+  cell-length = both-length (saysYes b) (saysNo b) (word x y is) (word x y isnt) ∙ ap (λ (i : ℕ). i + cond (saysNo b) 1 0) (count-yes b) ∙ ap (λ (i : ℕ). b / 4 % 2 + i) (count-no b)
 
   -- They are these, by what the byte says.
   cell-as : (p q : Bool) → saysYes b ≡ p → saysNo b ≡ q → cell x y b ≡ cond p ((x * 2048 + y * 2) ∷ []) [] ++ cond q ((x * 2048 + y * 2 + 1) ∷ []) []
-  cell-as p q t f =
+  cell-as p q u f =
       let first : word x y is ≡ x * 2048 + y * 2 = omega arith in
-      ap (λ (r : Bool). cond r (word x y is ∷ []) [] ++ cond (saysNo b) (word x y isnt ∷ []) []) t
+      ap (λ (r : Bool). cond r (word x y is ∷ []) [] ++ cond (saysNo b) (word x y isnt ∷ []) []) u
       ∙ ap (λ (r : Bool). cond p (word x y is ∷ []) [] ++ cond r (word x y isnt ∷ []) []) f
       ∙ ap (λ (i : ℕ). cond p (i ∷ []) [] ++ cond q (word x y isnt ∷ []) []) first
 
   -- What the code leaves of the list l.
   module _ (l : List ℕ) (h : length (cell x y b) ≤ length l) where
     leaves : (p q : Bool) (l′ : List ℕ) → saysYes b ≡ p → saysNo b ≡ q → l′ ≡ over (cond p ((x * 2048 + y * 2) ∷ []) [] ++ cond q ((x * 2048 + y * 2 + 1) ∷ []) []) l → l′ ≡ over (cell x y b) l
-    leaves p q l′ t f e = e ∙ ap (λ (r : List ℕ). over r l) (sym (cell-as p q t f))
+    leaves p q l′ u f e = e ∙ ap (λ (r : List ℕ). over r l) (sym (cell-as p q u f))
 
-    pub write-both : b % 2 ≡ 1 → b / 2 % 2 ≡ 1 → (2 ≡ length (cell x y b)) × (set (set l 0 (x * 2048 + y * 2)) 1 (x * 2048 + y * 2 + 1) ≡ over (cell x y b) l)
-    write-both t f = (omega (arith, cell-length), leaves true true _ (has-T b t) (has-F b f) (put-two l (x * 2048 + y * 2) (x * 2048 + y * 2 + 1) (omega (arith, cell-length))))
+    pub write-both : b / 4 % 2 ≡ 1 → b / 2 % 2 ≡ 1 → (2 ≡ length (cell x y b)) × (set (set l 0 (x * 2048 + y * 2)) 1 (x * 2048 + y * 2 + 1) ≡ over (cell x y b) l)
+    write-both u f = (omega (arith, cell-length), leaves true true _ (has-U b u) (has-F b f) (put-two l (x * 2048 + y * 2) (x * 2048 + y * 2 + 1) (omega (arith, cell-length))))
 
-    pub write-yes : b % 2 ≡ 1 → (b / 2 % 2 ≡ 1 → ⊥) → (1 ≡ length (cell x y b)) × (set l 0 (x * 2048 + y * 2) ≡ over (cell x y b) l)
-    write-yes t f = (omega (arith, cell-length), leaves true false _ (has-T b t) (no-F b f) (put-one l (x * 2048 + y * 2) (omega (arith, cell-length))))
+    pub write-yes : b / 4 % 2 ≡ 1 → (b / 2 % 2 ≡ 1 → ⊥) → (1 ≡ length (cell x y b)) × (set l 0 (x * 2048 + y * 2) ≡ over (cell x y b) l)
+    write-yes u f = (omega (arith, cell-length), leaves true false _ (has-U b u) (no-F b f) (put-one l (x * 2048 + y * 2) (omega (arith, cell-length))))
 
-    pub write-no : (b % 2 ≡ 1 → ⊥) → b / 2 % 2 ≡ 1 → (1 ≡ length (cell x y b)) × (set l 0 (x * 2048 + y * 2 + 1) ≡ over (cell x y b) l)
-    write-no t f = (omega (arith, cell-length), leaves false true _ (no-T b t) (has-F b f) (put-one l (x * 2048 + y * 2 + 1) (omega (arith, cell-length))))
+    pub write-no : (b / 4 % 2 ≡ 1 → ⊥) → b / 2 % 2 ≡ 1 → (1 ≡ length (cell x y b)) × (set l 0 (x * 2048 + y * 2 + 1) ≡ over (cell x y b) l)
+    write-no u f = (omega (arith, cell-length), leaves false true _ (no-U b u) (has-F b f) (put-one l (x * 2048 + y * 2 + 1) (omega (arith, cell-length))))
 
-    pub write-none : (b % 2 ≡ 1 → ⊥) → (b / 2 % 2 ≡ 1 → ⊥) → (0 ≡ length (cell x y b)) × (l ≡ over (cell x y b) l)
-    write-none t f = (ap length (sym (cell-as false false (no-T b t) (no-F b f))), leaves false false l (no-T b t) (no-F b f) refl)
+    pub write-none : (b / 4 % 2 ≡ 1 → ⊥) → (b / 2 % 2 ≡ 1 → ⊥) → (0 ≡ length (cell x y b)) × (l ≡ over (cell x y b) l)
+    write-none u f = (ap length (sym (cell-as false false (no-U b u) (no-F b f))), leaves false false l (no-U b u) (no-F b f) refl)

@@ -8,7 +8,7 @@ use lib.Seq.{getD-take}
 use Rattle.theory.specs.Completion.{cell, row}
 use Rattle.completion_cell.proofs.Cells.{cell-length}
 
-row-cons : (x : ℕ) (m : List ℕ) (y j : ℕ) → length (row x m y (suc j)) ≡ getD m y 0 % 2 + getD m y 0 / 2 % 2 + length (row x m (suc y) j)
+row-cons : (x : ℕ) (m : List ℕ) (y j : ℕ) → length (row x m y (suc j)) ≡ getD m y 0 / 4 % 2 + getD m y 0 / 2 % 2 + length (row x m (suc y) j)
 unfolding row
 row-cons x m y j =
     length-append (cell x y (getD m y 0)) (row x m (suc y) j) ∙ ap (λ (i : ℕ). i + length (row x m (suc y) j)) (cell-length x y (getD m y 0))
@@ -17,7 +17,7 @@ row-cons x m y j =
 pub row-length : (x : ℕ) (m : List ℕ) (y j : ℕ) → length (row x m y j) ≡ length (row 0 m y j)
 unfolding row
 row-length x m y zero = refl
-row-length x m y (suc j) = row-cons x m y j ∙ ap (λ (i : ℕ). getD m y 0 % 2 + getD m y 0 / 2 % 2 + i) (row-length x m (suc y) j) ∙ sym (row-cons 0 m y j)
+row-length x m y (suc j) = row-cons x m y j ∙ ap (λ (i : ℕ). getD m y 0 / 4 % 2 + getD m y 0 / 2 % 2 + i) (row-length x m (suc y) j) ∙ sym (row-cons 0 m y j)
 
 -- At most two words a kind.
 pub row-short : (x : ℕ) (m : List ℕ) (y j : ℕ) → length (row x m y j) ≤ 2 * j
@@ -67,13 +67,13 @@ module _ (x : ℕ) (m : List ℕ) (o : ℕ) where
 
 -- What is left to count at kind y of n.
 module _ (m : List ℕ) (y n : ℕ) where
-  pub count-go : y < n → length (row 0 m y (n - y)) ≡ getD m y 0 % 2 + getD m y 0 / 2 % 2 + length (row 0 m (y + 1) (n - (y + 1)))
+  pub count-go : y < n → length (row 0 m y (n - y)) ≡ getD m y 0 / 4 % 2 + getD m y 0 / 2 % 2 + length (row 0 m (y + 1) (n - (y + 1)))
   count-go h =
       let e : n - y ≡ suc (n - (y + 1)) = omega arith in
       let s : suc y ≡ y + 1 = omega arith in
       ap (λ (i : ℕ). length (row 0 m y i)) e
       ∙ row-cons 0 m y (n - (y + 1))
-      ∙ ap (λ (i : ℕ). getD m y 0 % 2 + getD m y 0 / 2 % 2 + length (row 0 m i (n - (y + 1)))) s
+      ∙ ap (λ (i : ℕ). getD m y 0 / 4 % 2 + getD m y 0 / 2 % 2 + length (row 0 m i (n - (y + 1)))) s
 
   pub count-end : n ≤ y → length (row 0 m y (n - y)) ≡ 0
   unfolding row

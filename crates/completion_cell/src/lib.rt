@@ -14,7 +14,7 @@ pub fn count_row(o: usize, n: usize, marks: &[u8]) -> usize
     let mut y = o;
     while y < n {
         let byte = marks[y];
-        size += (byte % 2 + byte / 2 % 2) as usize;
+        size += (byte / 4 % 2 + byte / 2 % 2) as usize;
         y += 1;
     }
     size
@@ -27,7 +27,7 @@ fn write_cell(x: u32, y: u32, byte: u8, list: &mut [u32]) -> usize
     ensures written { λ r. ⌜ now (list .exit) ≡ over (cell x y byte) (now (list .entry)) ⌝ }
 {
     let word = x * 2048 + y * 2;
-    if byte % 2 == 1 {
+    if byte / 4 % 2 == 1 {
         list[0] = word;
         if byte / 2 % 2 == 1 {
             list[1] = word + 1;

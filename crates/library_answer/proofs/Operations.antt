@@ -9,8 +9,7 @@ use lib.ListN.{length}
 use Rattle.theory.specs.Nets.{Net}
 use Rattle.theory.specs.Completion.{fullMarks, complete}
 use Rattle.theory.proofs.completion.Demand3.{complete-net}
-use Rattle.net.specs.Table.{Reply, checkNet}
-use Rattle.net.specs.declared.Checked.{Checked}
+use Rattle.net.specs.Table.{Reply}
 use Rattle.net.proofs.NetCheck.{check-is-net}
 use Rattle.net.specs.Clauses.{call}
 use Rattle.scan.specs.Table.{ScanOutcome, scanReply}

@@ -37,7 +37,7 @@ pub cause-low : (c : Cause) → causeNumber c < 4294967296
 cause-low Tail = omega arith
 cause-low Head = omega arith
 
--- Equal answers have one reply, where f gives the replies.
+-- Where the reply of an answer fits, so does the reply of an equal one; f gives the replies.
 pub carry-fits : {A : Type 0} (f : A → Reply) {a v : A} → a ≡ v → Fits (f a) → Fits (f v)
 carry-fits {A} f e = subst (λ (u : A). Fits (f u)) e
 

@@ -1,13 +1,13 @@
 -- Why a word is illegal: an illegal word has one cause, and it is the one that is told.
-use Prim.Native.Nat.{ℕ, _+_, _<_}
+use Prim.Native.Nat.{ℕ, _+_}
 use mathlib.Core.Path.{_≡_, refl, subst}
 use mathlib.Core.Bool.{Bool, true, false, cond}
 use mathlib.Core.Logic.{_↔_}
 use native.Mathlib.Omega.{arith}
 use borrow.Author.Tests.{leb-true, leb-false}
 use lib.Dec.{leb}
-use Rattle.theory.specs.Words.{tailOf, headOf}
-use Rattle.theory.specs.Nets.{Kind, LegalWord}
+use Rattle.theory.specs.Words.{tailOf}
+use Rattle.theory.specs.Nets.{LegalWord}
 use Rattle.net.specs.Legal.{Because, causeOf}
 use Rattle.net.specs.Table.{causeNumber}
 use Rattle.net.specs.declared.Cause.{Cause}

@@ -12,7 +12,7 @@ use Rattle.theory.specs.Checks.{passes}
 use Rattle.net.specs.Table.{checkNet}
 use Rattle.check_word.specs.Table.{wordTable, checkWord}
 use Rattle.check_word.specs.declared.WordChecked.the-variants.{Legal}
-use Rattle.scan.specs.Table.{forwardScanned, kindScanned}
+use Rattle.scan.specs.Table.{scanned}
 use Rattle.question.specs.Table.{questioned}
 use Rattle.clash.specs.Table.{firstBoth, firstClash, clashNodes, clashSearch, nowhere, clashTable, clashDone, clashedReply, clashedBy}
 use Rattle.clash.specs.declared.Clashed.{Clashed}
@@ -60,15 +60,9 @@ module _ (o k : ℕ) (ws : List ℕ) where
       obeys checkedNumber _ _ (record { numbered = (refl, (refl, (refl, tt))); once = refl; nonzero = refl; zero = λ h. refl }) _
       refl
 
-  -- The forward scan: numbers 1 to 6, or 0.
-  pub forward-obeys : (x budget : ℕ) (m : List ℕ) → Obeys scanNumber (scanTable false o k ws x budget m) (scanDone false ws x budget m (o + k)) (forwardScanned o k ws x budget m)
-  forward-obeys x budget m =
-      obeys scanNumber _ _ (record { numbered = (refl, (refl, (refl, (refl, (refl, (refl, tt)))))); once = refl; nonzero = refl; zero = λ h. refl }) _
-      refl
-
-  -- The kind scan: numbers 1 to 6, or 0.
-  pub kind-obeys : (y budget : ℕ) (m : List ℕ) → Obeys scanNumber (scanTable true o k ws y budget m) (scanDone true ws y budget m (o + k)) (kindScanned o k ws y budget m)
-  kind-obeys y budget m =
+  -- The scan: numbers 1 to 6, or 0.
+  pub scan-obeys : (x budget : ℕ) (m : List ℕ) → Obeys scanNumber (scanTable o k ws x budget m) (scanDone ws x budget m (o + k)) (scanned o k ws x budget m)
+  scan-obeys x budget m =
       obeys scanNumber _ _ (record { numbered = (refl, (refl, (refl, (refl, (refl, (refl, tt)))))); once = refl; nonzero = refl; zero = λ h. refl }) _
       refl
 
@@ -113,8 +107,7 @@ pub demand-1 : Demand1 ours
 demand-1 = record {
   wordCheck = word-obeys;
   netCheck = net-obeys;
-  forwardScan = forward-obeys;
-  kindScan = kind-obeys;
+  scan = scan-obeys;
   question = question-obeys;
   clashTest = clash-obeys;
   completion = completion-obeys;

@@ -46,7 +46,7 @@ classical-fails d =
     contradiction (demand-2 .question 1 2 (2 ∷ 3 ∷ []) 0 2 (blank 3) None 2 says-none is .1 (d .question 1 2 (2 ∷ 3 ∷ []) 0 2 (blank 3) Yes 2 follows-all is .0 refl))
 
 -- Net M from kind 4: the backward search ends with no F.
-loses-noes : neverUp .kindScan 2 4 M 4 17 (blank 6) ≡ record { answer = scanned.Done 3; marks = 0 ∷ 1 ∷ 0 ∷ 0 ∷ 1 ∷ 1 ∷ [] }
+loses-noes : neverUp .scan 2 4 M 4 17 (blank 6) ≡ record { answer = scanned.Done 3; marks = 0 ∷ 1 ∷ 0 ∷ 0 ∷ 1 ∷ 1 ∷ [] }
 unfolding legalPrefix rounds same round command links link mark
 loses-noes = refl
 
@@ -55,4 +55,4 @@ pub never-up-fails : Demand2 neverUp → ⊥
 never-up-fails d =
     contradiction
     (sym (ap (λ (r : ScanOutcome). has F (getD (r .marks) 2 0)) loses-noes)
-    ∙ d .kindScan 2 4 M 4 17 (blank 6) 3 (ap (λ (r : ScanOutcome). r .answer) loses-noes) 2 (omega arith) isnt .1 two-is-not-four)
+    ∙ d .scanTo 2 4 M 4 17 (blank 6) 3 (ap (λ (r : ScanOutcome). r .answer) loses-noes) (record { low = omega arith; high = omega arith }) 2 (omega arith) isnt .1 two-is-not-four)

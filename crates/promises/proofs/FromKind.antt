@@ -10,9 +10,9 @@ use borrow.Author.Tests.{le-ltb, lt-leb}
 use Rattle.theory.specs.Words.{Sign, is, tailOf}
 use Rattle.theory.specs.Nets.{Kind, Links, Net}
 use Rattle.theory.specs.Support.{Supported}
-use Rattle.theory.specs.Marks.{At, markerOf, U, blank}
+use Rattle.theory.specs.Marks.{At, markerTo, U, blank}
 use Rattle.theory.specs.Completion.{complete, Lists}
-use Rattle.theory.proofs.machine.Bounds.{kind-done}
+use Rattle.theory.proofs.machine.Bounds.{full-done}
 use Rattle.theory.proofs.completion.Completing.{complete-lists, lists-unique}
 use Rattle.theory.proofs.completion.Demand3.{part-of, lists-as, same-completed, beside-joined, others-supported}
 use Rattle.theory.proofs.Legal.{legal-links}
@@ -39,37 +39,37 @@ number-0 (scanned.Spent count) e = absurd (omega arith)
 number-0 (scanned.Refused r) e = absurd (omega (arith, refusal-numbers r))
 
 module _ (e : Engine) (first : Demand1 e) (second : Demand2 e) (o k : ℕ) where
-  -- No clause of the table applies to a kind scan over a net that has room and rounds enough.
+  -- No clause of the table applies to a scan from a kind over a net that has room and rounds enough.
   scan-done : (ws : List ℕ) → Net o k ws → (y : ℕ) → Kind o k y → (budget : ℕ) → 3 * (o + k) - 1 ≤ budget → (room : List ℕ) → o + k ≤ length room
-      → (count : ℕ) × (e .kindScan o k ws y budget room .answer ≡ scanned.Done count)
+      → (count : ℕ) × (e .scan o k ws y budget room .answer ≡ scanned.Done count)
   scan-done ws n y h budget g room l =
       let t = past-clause-3 o k ws .1 n in
-      let due : Due 0 (scanTable true o k ws y budget room) =
-      (t .0, (t .1, (t .2, (rw (lt-leb (o + k) y (h .high), le-ltb y o (h .low)), (le-ltb (length room) (o + k) l, (rw (kind-done o k ws (n .legal) y (h .high) budget g), refl)))))) in
-      number-0 (e .kindScan o k ws y budget room .answer) (first .kindScan o k ws y budget room .exactly 0 .1 due)
+      let due : Due 0 (scanTable o k ws y budget room) =
+      (t .0, (t .1, (t .2, (lt-leb (o + k) y (h .high), (le-ltb (length room) (o + k) l, (rw (full-done o k ws (n .legal) y (h .high) budget g), refl)))))) in
+      number-0 (e .scan o k ws y budget room .answer) (first .scan o k ws y budget room .exactly 0 .1 due)
 
   -- So there are marks from every kind.
   from-every : (ws : List ℕ) → Net o k ws → (y : ℕ) → Kind o k y → (m : List ℕ) × KindMarks e o k ws y m
   from-every ws n y h =
       let long : length (blank (o + k)) ≡ o + k = length-replicate {A = ℕ} (o + k) 0 in
       let (count, q) = scan-done ws n y h (3 * (o + k) - 1) (omega arith) (blank (o + k)) (omega arith) in
-      let left = e .kindScan o k ws y (3 * (o + k) - 1) (blank (o + k)) .marks in
-      (left, record { budget = 3 * (o + k) - 1; room = blank (o + k); count = count; done = λ i. record { answer = q i; marks = left } })
+      let left = e .scan o k ws y (3 * (o + k) - 1) (blank (o + k)) .marks in
+      (left, record { kind = h; budget = 3 * (o + k) - 1; room = blank (o + k); count = count; done = λ i. record { answer = q i; marks = left } })
 
-  -- The marks of a kind scan that is done say what is supported.
-  said : (ws : List ℕ) (y : ℕ) (m : List ℕ) → KindMarks e o k ws y m → (x : ℕ) → x < o + k → (s : Sign) → At m (markerOf s) x ↔ Supported o k (Links ws) x y s
+  -- The marks of a scan from a kind that is done say what is supported.
+  said : (ws : List ℕ) (y : ℕ) (m : List ℕ) → KindMarks e o k ws y m → (x : ℕ) → x < o + k → (s : Sign) → At m (markerTo s) x ↔ Supported o k (Links ws) x y s
   said ws y m t x h s =
-      subst (λ (l : List ℕ). At l (markerOf s) x ↔ Supported o k (Links ws) x y s) (ap (λ (r : ScanOutcome). r .marks) (t .done))
-      (second .kindScan o k ws y (t .budget) (t .room) (t .count) (ap (λ (r : ScanOutcome). r .answer) (t .done)) x h s)
+      subst (λ (l : List ℕ). At l (markerTo s) x ↔ Supported o k (Links ws) x y s) (ap (λ (r : ScanOutcome). r .marks) (t .done))
+      (second .scanTo o k ws y (t .budget) (t .room) (t .count) (ap (λ (r : ScanOutcome). r .answer) (t .done)) (t .kind) x h s)
 
-  said-up : (ws : List ℕ) (y : ℕ) (m : List ℕ) → KindMarks e o k ws y m → (z : ℕ) → z < o + k → At m U z ↔ Supported o k (Links ws) y z is
+  said-up : (ws : List ℕ) (y : ℕ) (m : List ℕ) → KindMarks e o k ws y m → (z : ℕ) → Kind o k z → At m U z ↔ Supported o k (Links ws) y z is
   said-up ws y m t z h =
       subst (λ (l : List ℕ). At l U z ↔ Supported o k (Links ws) y z is) (ap (λ (r : ScanOutcome). r .marks) (t .done))
-      (second .kindScanUp o k ws y (t .budget) (t .room) (t .count) (ap (λ (r : ScanOutcome). r .answer) (t .done)) z h)
+      (second .scan o k ws y (t .budget) (t .room) (t .count) (ap (λ (r : ScanOutcome). r .answer) (t .done)) z h is)
 
   -- So where all that one net supports another does, its marks are marks of the other.
   into : (ws vs : List ℕ) → Sub (Supported o k (Links ws)) (Supported o k (Links vs)) → (y : ℕ) (m l : List ℕ) → KindMarks e o k ws y m → KindMarks e o k vs y l
-      → (x : ℕ) → x < o + k → (s : Sign) → At m (markerOf s) x → At l (markerOf s) x
+      → (x : ℕ) → x < o + k → (s : Sign) → At m (markerTo s) x → At l (markerTo s) x
   into ws vs f y m l t u x h s a = said vs y l u x h s .1 (f x y s (said ws y m t x h s .0 a))
 
   -- And where the marks from every kind are the same, all that the one supports the other does.
@@ -114,16 +114,16 @@ module _ (e : Engine) (first : Demand1 e) (second : Demand2 e) (o k : ℕ) where
 
   others-from-kind : (ws vs : List ℕ) → Joined o k ws vs → (a : ℕ) → a < o → ((w : ℕ) → List·Memᴰ w vs → tailOf w ≡ a)
       → (y : ℕ) (m l : List ℕ) → KindMarks e o k ws y m → KindMarks e o k (ws ++ vs) y l
-      → (x : ℕ) → x < o + k → (x ≡ a → ⊥) → (s : Sign) → At l (markerOf s) x ↔ At m (markerOf s) x
+      → (x : ℕ) → x < o + k → (x ≡ a → ⊥) → (s : Sign) → At l (markerTo s) x ↔ At m (markerTo s) x
   others-from-kind ws vs j a g f y m l t u x h q s =
       let r = others-supported o k ws vs (j .left .legal) (j .right .legal) a g f x y s q in
       ((λ p. said ws y m t x h s .1 (r .0 (said (ws ++ vs) y l u x h s .0 p))), λ p. said (ws ++ vs) y l u x h s .1 (r .1 (said ws y m t x h s .0 p)))
 
   others-up-from-kind : (ws vs : List ℕ) → Joined o k ws vs → (a : ℕ) → a < o → ((w : ℕ) → List·Memᴰ w vs → tailOf w ≡ a)
-      → (y : ℕ) → Kind o k y → (m l : List ℕ) → KindMarks e o k ws y m → KindMarks e o k (ws ++ vs) y l
-      → (z : ℕ) → z < o + k → At l U z ↔ At m U z
-  others-up-from-kind ws vs j a g f y kind m l t u z h =
-      let r = others-supported o k ws vs (j .left .legal) (j .right .legal) a g f y z is (λ q. omega (arith, kind .low)) in
+      → (y : ℕ) (m l : List ℕ) → KindMarks e o k ws y m → KindMarks e o k (ws ++ vs) y l
+      → (z : ℕ) → Kind o k z → At l U z ↔ At m U z
+  others-up-from-kind ws vs j a g f y m l t u z h =
+      let r = others-supported o k ws vs (j .left .legal) (j .right .legal) a g f y z is (λ q. omega (arith, t .kind .low)) in
       ((λ p. said-up ws y m t z h .1 (r .0 (said-up (ws ++ vs) y l u z h .0 p))), λ p. said-up (ws ++ vs) y l u z h .1 (r .1 (said-up ws y m t z h .0 p)))
 
 -- The laws from the kind, of any engine that keeps the demands.

@@ -10,7 +10,7 @@ use lib.ListN.{length}
 use borrow.Author.Tests.{ltb-true, ltb-false, lt-ltb, le-ltb, not-true, not-false}
 use Rattle.theory.specs.Words.{nodeLimit, wordLimit}
 use Rattle.theory.specs.Nets.{Kind, Net, LegalWord}
-use Rattle.theory.specs.Marks.{forward, kindly, forwardStart, kindStart}
+use Rattle.theory.specs.Marks.{commands, scanStart}
 use Rattle.theory.specs.Scans.{Count}
 use Rattle.theory_laws.proofs.Booleans.{contradiction}
 use Rattle.net.specs.Legal.{legal, legalPrefix}
@@ -19,7 +19,7 @@ use Rattle.check_word.specs.Table.{checkWord}
 use Rattle.net.specs.Clauses.{Clause, clause}
 use Rattle.net.specs.Table.{checkNet}
 use Rattle.net.specs.FirstIllegal.{FirstIllegal}
-use Rattle.scan.specs.Table.{forwardScanned, kindScanned}
+use Rattle.scan.specs.Table.{scanned}
 use Rattle.theory.specs.Completion.{Lists, complete}
 use Rattle.theory.proofs.completion.Completing.{complete-lists, lists-unique}
 use Rattle.clash.specs.Table.{clashedBy}
@@ -28,8 +28,8 @@ use Rattle.promises.specs.Numbers.{wordNumber, checkedNumber, scanNumber
 use Rattle.promises.specs.Tables.{Obeys}
 use Rattle.promises.specs.Clashing.{ClashAt}
 use Rattle.promises.proofs.Clashes.{some-clash-exactly}
-use Rattle.promises.proofs.Demand1.{word-obeys, net-obeys, forward-obeys, kind-obeys, clash-obeys, completion-obeys}
-use Rattle.promises.proofs.Tests.{clause-1, clause-2, clause-3, past-clause-3, node-exactly, clause-4-start, kind-exactly, clause-4-kind, clause-5, within-exactly, clause-6, clause-7-clash, clause-8}
+use Rattle.promises.proofs.Demand1.{word-obeys, net-obeys, scan-obeys, clash-obeys, completion-obeys}
+use Rattle.promises.proofs.Tests.{clause-1, clause-2, clause-3, past-clause-3, node-exactly, clause-4-start, clause-5, within-exactly, clause-6, clause-7-clash, clause-8}
 
 -- One way of saying it, then another.
 pub then : {A B C : Type 0} → A ↔ B → B ↔ C → A ↔ C
@@ -123,75 +123,40 @@ module _ (o k : ℕ) (ws : List ℕ) where
     λ net. let t = past-clause-3 o k ws .1 net in (t .0, (t .1, (t .2, refl))),
   )
 
--- ── the kind scan ──
-
-module _ (o k : ℕ) (ws : List ℕ) (y budget : ℕ) (m : List ℕ) where
-  -- 1, 2 and 3 as in every table: too many nodes; too many words; a first illegal word.
-  pub kind-1 : (scanNumber (kindScanned o k ws y budget m) ≡ 1) ↔ (1024 < o + k)
-  kind-1 = number-1 o k ws (kind-obeys o k ws y budget m)
-
-  pub kind-2 : (scanNumber (kindScanned o k ws y budget m) ≡ 2) ↔ ((o + k ≤ 1024) × (2097152 < length ws))
-  kind-2 = number-2 o k ws (kind-obeys o k ws y budget m)
-
-  pub kind-3 : (scanNumber (kindScanned o k ws y budget m) ≡ 3)
-      ↔ ((o + k ≤ 1024) × ((length ws ≤ 2097152) × FirstIllegal o k ws (legalPrefix o (o + k) ws)))
-  kind-3 = number-3 o k ws (kind-obeys o k ws y budget m)
-
-  -- 4: over a net, the start is no kind.
-  pub kind-4 : (scanNumber (kindScanned o k ws y budget m) ≡ 4) ↔ (Net o k ws × (Kind o k y → ⊥))
-  kind-4 = then (kind-obeys o k ws y budget m .exactly 4) (past-net o k ws (clause-4-kind o k ws y))
-
-  -- 5: over a net and from a kind, the marks are too short.
-  pub kind-5 : (scanNumber (kindScanned o k ws y budget m) ≡ 5) ↔ (Net o k ws × (Kind o k y × (length m < o + k)))
-  kind-5 = then (kind-obeys o k ws y budget m .exactly 5) (past-net o k ws (both (kind-exactly o k ws y) (clause-5 o k ws m)))
-
-  module _ (c : ℕ) (count : Count kindly ws (kindStart (o + k) y) c) where
-    -- 6: nothing else is wrong, and the count c is above the budget.
-    pub kind-6 : (scanNumber (kindScanned o k ws y budget m) ≡ 6) ↔ (Net o k ws × (Kind o k y × ((o + k ≤ length m) × (budget < c))))
-    kind-6 =
-        then (kind-obeys o k ws y budget m .exactly 6)
-        (past-net o k ws (both (kind-exactly o k ws y) (both (at-least (length m) (o + k)) (clause-6 kindly ws (kindStart (o + k) y) budget c count))))
-
-    -- 0: nothing is wrong, and the count is within the budget.
-    pub kind-0 : (scanNumber (kindScanned o k ws y budget m) ≡ 0) ↔ (Net o k ws × (Kind o k y × ((o + k ≤ length m) × (c ≤ budget))))
-    kind-0 =
-        then (kind-obeys o k ws y budget m .exactly 0)
-        (past-net o k ws (both (kind-exactly o k ws y) (both (at-least (length m) (o + k)) (first-only (within-exactly kindly ws (kindStart (o + k) y) budget c count)))))
-
--- ── the forward scan ──
+-- ── the scan ──
 
 module _ (o k : ℕ) (ws : List ℕ) (x budget : ℕ) (m : List ℕ) where
   -- 1, 2 and 3 as in every table: too many nodes; too many words; a first illegal word.
-  pub forward-1 : (scanNumber (forwardScanned o k ws x budget m) ≡ 1) ↔ (1024 < o + k)
-  forward-1 = number-1 o k ws (forward-obeys o k ws x budget m)
+  pub scan-1 : (scanNumber (scanned o k ws x budget m) ≡ 1) ↔ (1024 < o + k)
+  scan-1 = number-1 o k ws (scan-obeys o k ws x budget m)
 
-  pub forward-2 : (scanNumber (forwardScanned o k ws x budget m) ≡ 2) ↔ ((o + k ≤ 1024) × (2097152 < length ws))
-  forward-2 = number-2 o k ws (forward-obeys o k ws x budget m)
+  pub scan-2 : (scanNumber (scanned o k ws x budget m) ≡ 2) ↔ ((o + k ≤ 1024) × (2097152 < length ws))
+  scan-2 = number-2 o k ws (scan-obeys o k ws x budget m)
 
-  pub forward-3 : (scanNumber (forwardScanned o k ws x budget m) ≡ 3)
+  pub scan-3 : (scanNumber (scanned o k ws x budget m) ≡ 3)
       ↔ ((o + k ≤ 1024) × ((length ws ≤ 2097152) × FirstIllegal o k ws (legalPrefix o (o + k) ws)))
-  forward-3 = number-3 o k ws (forward-obeys o k ws x budget m)
+  scan-3 = number-3 o k ws (scan-obeys o k ws x budget m)
 
   -- 4: over a net, the start is no node.
-  pub forward-4 : (scanNumber (forwardScanned o k ws x budget m) ≡ 4) ↔ (Net o k ws × (x < o + k → ⊥))
-  forward-4 = then (forward-obeys o k ws x budget m .exactly 4) (past-net o k ws (clause-4-start o k ws x))
+  pub scan-4 : (scanNumber (scanned o k ws x budget m) ≡ 4) ↔ (Net o k ws × (x < o + k → ⊥))
+  scan-4 = then (scan-obeys o k ws x budget m .exactly 4) (past-net o k ws (clause-4-start o k ws x))
 
   -- 5: over a net and from a node, the marks are too short.
-  pub forward-5 : (scanNumber (forwardScanned o k ws x budget m) ≡ 5) ↔ (Net o k ws × ((x < o + k) × (length m < o + k)))
-  forward-5 = then (forward-obeys o k ws x budget m .exactly 5) (past-net o k ws (both (node-exactly o k ws x) (clause-5 o k ws m)))
+  pub scan-5 : (scanNumber (scanned o k ws x budget m) ≡ 5) ↔ (Net o k ws × ((x < o + k) × (length m < o + k)))
+  scan-5 = then (scan-obeys o k ws x budget m .exactly 5) (past-net o k ws (both (node-exactly o k ws x) (clause-5 o k ws m)))
 
-  module _ (c : ℕ) (count : Count forward ws (forwardStart (o + k) x) c) where
+  module _ (c : ℕ) (count : Count commands ws (scanStart (o + k) x) c) where
     -- 6: nothing else is wrong, and the count c is above the budget.
-    pub forward-6 : (scanNumber (forwardScanned o k ws x budget m) ≡ 6) ↔ (Net o k ws × ((x < o + k) × ((o + k ≤ length m) × (budget < c))))
-    forward-6 =
-        then (forward-obeys o k ws x budget m .exactly 6)
-        (past-net o k ws (both (node-exactly o k ws x) (both (at-least (length m) (o + k)) (clause-6 forward ws (forwardStart (o + k) x) budget c count))))
+    pub scan-6 : (scanNumber (scanned o k ws x budget m) ≡ 6) ↔ (Net o k ws × ((x < o + k) × ((o + k ≤ length m) × (budget < c))))
+    scan-6 =
+        then (scan-obeys o k ws x budget m .exactly 6)
+        (past-net o k ws (both (node-exactly o k ws x) (both (at-least (length m) (o + k)) (clause-6 commands ws (scanStart (o + k) x) budget c count))))
 
     -- 0: nothing is wrong, and the count is within the budget.
-    pub forward-0 : (scanNumber (forwardScanned o k ws x budget m) ≡ 0) ↔ (Net o k ws × ((x < o + k) × ((o + k ≤ length m) × (c ≤ budget))))
-    forward-0 =
-        then (forward-obeys o k ws x budget m .exactly 0)
-        (past-net o k ws (both (node-exactly o k ws x) (both (at-least (length m) (o + k)) (first-only (within-exactly forward ws (forwardStart (o + k) x) budget c count)))))
+    pub scan-0 : (scanNumber (scanned o k ws x budget m) ≡ 0) ↔ (Net o k ws × ((x < o + k) × ((o + k ≤ length m) × (c ≤ budget))))
+    scan-0 =
+        then (scan-obeys o k ws x budget m .exactly 0)
+        (past-net o k ws (both (node-exactly o k ws x) (both (at-least (length m) (o + k)) (first-only (within-exactly commands ws (scanStart (o + k) x) budget c count)))))
 
 -- ── the clash test ──
 

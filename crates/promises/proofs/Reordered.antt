@@ -12,7 +12,7 @@ use lib.Seq.{ext-getD}
 use Rattle.theory_laws.proofs.Booleans.{same-test}
 use Rattle.theory.specs.Words.{Sign, is, isnt, signNumber, signAt}
 use Rattle.theory.specs.Nets.{Kind, Links, Net, AllIn}
-use Rattle.theory.specs.Scans.{Scan}
+use Rattle.theory.specs.Scans.{Scan, fullBudget}
 use Rattle.theory.specs.Completion.{fullMarks, rows, complete}
 use Rattle.theory.specs.Reasons.{Moves, up, across, down, goal, never}
 use Rattle.theory.specs.Searches.{distances, reasonStates}
@@ -35,7 +35,7 @@ use Rattle.reason.specs.Table.{ReasonOutcome, reasonOutcome, filled, reasonOf, 
 use Rattle.reason.specs.declared.Reasoned.the-variants as reasonedAs
 use Rattle.reason_check.specs.Table.{checkClauses, checkDone, verdict}
 use Rattle.reason_check.specs.declared.Verdict.the-variants as verdictAs
-use Rattle.promises.proofs.Orders.{after-tests, forward-same}
+use Rattle.promises.proofs.Orders.{after-tests, rounds-same}
 use Rattle.promises.proofs.Reasoning.{node-of, kind-of, near}
 
 -- What a list of words links, and each move along a link, a list with those words has too.
@@ -50,9 +50,9 @@ module _ (ws vs : List ℕ) (to : AllIn ws vs) where
   moves-into n s a b (down c d p q l) = down c d p q (links-into d c is l)
 
 module _ (o k : ℕ) (ws vs : List ℕ) (n : Net o k ws) (p : Net o k vs) (to : AllIn ws vs) (from : AllIn vs ws) where
-  -- A full forward scan from a node leaves the same marks.
+  -- A full scan from a node leaves the same marks.
   full-same : (x : ℕ) → x < o + k → fullMarks o k ws x ≡ fullMarks o k vs x
-  full-same x h = ap (λ (s : Scan). s .marks) (forward-same o k ws vs n p to from x (2 * (o + k)) h)
+  full-same x h = ap (λ (s : Scan). s .marks) (rounds-same o k ws vs n p to from x (fullBudget (o + k)) h)
 
   -- So the rows of the completion are the same.
   rows-same : (x j : ℕ) → x + j ≤ o + k → rows o k ws x j ≡ rows o k vs x j

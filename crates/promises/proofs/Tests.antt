@@ -70,22 +70,12 @@ module _ (o k : ℕ) (ws : List ℕ) where
           (λ j l. legal-means o k (getD ws j 0) .1 (n .legal (getD ws j 0) (at-member ws j l))) in
           (le-ltb nodeLimit (o + k) (n .few), le-ltb wordLimit (length ws) (n .short), le-ltb (legalPrefix o (o + k) ws) (length ws) (omega (arith, all)))
 
-  -- Clause 4 of the forward scan: x is no node.
+  -- Clause 4 of a scan: x is no node.
   pub node-exactly : (x : ℕ) → (leb (o + k) x ≡ false) ↔ (x < o + k)
   node-exactly x = (leb-false (o + k) x, lt-leb (o + k) x)
 
   pub clause-4-start : (x : ℕ) → Decides (leb (o + k) x) (x < o + k → ⊥)
   clause-4-start x = decides-not _ (node-exactly x)
-
-  -- Clause 4 of the kind scan: y is no kind.
-  pub kind-exactly : (y : ℕ) → ((leb (o + k) y || ltb y o) ≡ false) ↔ Kind o k y
-  kind-exactly y = (
-    (λ e. record { low = ltb-false y o (or-none-right (leb (o + k) y) (ltb y o) e); high = leb-false (o + k) y (or-none-left (leb (o + k) y) (ltb y o) e) }),
-    λ h. rw (lt-leb (o + k) y (h .high), le-ltb y o (h .low)),
-  )
-
-  pub clause-4-kind : (y : ℕ) → Decides (leb (o + k) y || ltb y o) (Kind o k y → ⊥)
-  clause-4-kind y = decides-not _ (kind-exactly y)
 
   -- Clause 4 of a question: x is no node, or y is no kind.
   pub clause-4-pair : (x y : ℕ) → Decides (badPair o (o + k) x y) (GoodPair o (o + k) x y → ⊥)

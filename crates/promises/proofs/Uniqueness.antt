@@ -8,7 +8,7 @@ use Rattle.check_word.specs.Table.{checkWord}
 use Rattle.check_word.specs.declared.WordChecked.{WordChecked}
 use Rattle.net.specs.Table.{checkNet}
 use Rattle.net.specs.declared.Checked.{Checked}
-use Rattle.scan.specs.Table.{ScanOutcome, scanOutcome, forwardScanned, kindScanned}
+use Rattle.scan.specs.Table.{ScanOutcome, scanOutcome, scanned}
 use Rattle.scan.specs.declared.Scanned.{Scanned}
 use Rattle.question.specs.Table.{QuestionOutcome, questionOutcome, questioned}
 use Rattle.clash.specs.Table.{ClashOutcome, clashOutcome, clashedBy}
@@ -39,15 +39,10 @@ scan-parts : (r q : Scanned) (m l : List ℕ) → scanOutcome r m ≡ scanOutcom
 scan-parts r q m l e = (ap (λ (s : ScanOutcome). s .answer) e, ap (λ (s : ScanOutcome). s .marks) e)
 
 module _ (o k : ℕ) (ws : List ℕ) where
-  -- The forward scan: r and q answers, m and l the marks left.
-  pub forward-unique : (x budget : ℕ) (marks : List ℕ) (r q : Scanned) (m l : List ℕ)
-      → scanOutcome r m ≡ forwardScanned o k ws x budget marks → scanOutcome q l ≡ forwardScanned o k ws x budget marks → (r ≡ q) × (m ≡ l)
-  forward-unique x budget marks r q m l e f = scan-parts r q m l (both-are (scanOutcome r m) (scanOutcome q l) e f)
-
-  -- The kind scan.
-  pub kind-unique : (y budget : ℕ) (marks : List ℕ) (r q : Scanned) (m l : List ℕ)
-      → scanOutcome r m ≡ kindScanned o k ws y budget marks → scanOutcome q l ≡ kindScanned o k ws y budget marks → (r ≡ q) × (m ≡ l)
-  kind-unique y budget marks r q m l e f = scan-parts r q m l (both-are (scanOutcome r m) (scanOutcome q l) e f)
+  -- The scan: r and q answers, m and l the marks left.
+  pub scan-unique : (x budget : ℕ) (marks : List ℕ) (r q : Scanned) (m l : List ℕ)
+      → scanOutcome r m ≡ scanned o k ws x budget marks → scanOutcome q l ≡ scanned o k ws x budget marks → (r ≡ q) × (m ≡ l)
+  scan-unique x budget marks r q m l e f = scan-parts r q m l (both-are (scanOutcome r m) (scanOutcome q l) e f)
 
   -- The question.
   pub question-unique : (x y : ℕ) (marks : List ℕ) (r q : Asked) (m l : List ℕ)

@@ -13,7 +13,7 @@ use Rattle.theory_laws.proofs.Booleans.{contradiction}
 use Rattle.theory.specs.Words.{isnt, wordLimit}
 use Rattle.theory.specs.Nets.{Net}
 use Rattle.theory.specs.Support.{r1}
-use Rattle.theory.specs.Marks.{F, has, mark, link, links, command, round, forward, forwardStart, blank}
+use Rattle.theory.specs.Marks.{F, has, mark, link, links, command, round, commands, scanStart, blank}
 use Rattle.theory.specs.Scans.{after, same, rounds, Count}
 use Rattle.theory.proofs.machine.Budgets.{count-unique}
 use Rattle.theory.proofs.machine.Loss.{nought-is-not-four}
@@ -21,8 +21,8 @@ use Rattle.net.specs.Legal.{legalPrefix}
 use Rattle.net.specs.Table.{checkNet}
 use Rattle.net.specs.declared.Refusal.{Refusal}
 use Rattle.net.proofs.Replies.{refusal-not}
-use Rattle.scan.specs.Table.{ScanOutcome, scanOutcome, forwardScanned}
-use Rattle.scan.specs.declared.Scanned.the-variants as scanned
+use Rattle.scan.specs.Table.{ScanOutcome, scanOutcome, scanned}
+use Rattle.scan.specs.declared.Scanned.the-variants as answer
 use Rattle.question.specs.Table.{askedReply}
 use Rattle.question.specs.declared.Answer.the-variants.{None}
 use Rattle.question.specs.declared.Asked.{Asked}
@@ -112,57 +112,57 @@ copier-breaks = copying-breaks copier (copies 0 1 [] one-kind)
 
 -- ── one that runs the first round and reports an invented count ──
 
--- Net M, forward from 0: the first round leaves no F at 4.
-no-F-yet : has F (getD (round forward M (forwardStart 6 0)) 4 0) ≡ false
+-- Net M from 0: the first round leaves no F at 4.
+no-F-yet : has F (getD (round commands M (scanStart 6 0)) 4 0) ≡ false
 unfolding round command links link mark
 no-F-yet = refl
 
 -- But 0 ↛ 4 is supported: an engine that leaves the marks of the first round there breaks demand 2, whatever count it reports.
-pub one-round-breaks : (e : Engine) (count : ℕ) → e .forwardScan 2 4 M 0 12 (blank 6) ≡ scanOutcome (scanned.Done count) (round forward M (forwardStart 6 0)) → Demand2 e → ⊥
+pub one-round-breaks : (e : Engine) (count : ℕ) → e .scan 2 4 M 0 17 (blank 6) ≡ scanOutcome (answer.Done count) (round commands M (scanStart 6 0)) → Demand2 e → ⊥
 one-round-breaks e count h d =
     contradiction
     (sym no-F-yet
     ∙ sym (ap (λ (r : ScanOutcome). has F (getD (r .marks) 4 0)) h)
-    ∙ d .forwardScan 2 4 M 0 12 (blank 6) count (ap (λ (r : ScanOutcome). r .answer) h) 4 (record { low = omega arith; high = omega arith }) isnt .1 nought-is-not-four)
+    ∙ d .scan 2 4 M 0 17 (blank 6) count (ap (λ (r : ScanOutcome). r .answer) h) 4 (record { low = omega arith; high = omega arith }) isnt .1 nought-is-not-four)
 
 -- The engine that invents counts leaves these marks.
 stops-early : (invented : ℕ → ℕ → List ℕ → ℕ → ℕ → List ℕ → ℕ)
-    → inventor invented .forwardScan 2 4 M 0 12 (blank 6) ≡ scanOutcome (scanned.Done (invented 2 4 M 0 12 (blank 6))) (round forward M (forwardStart 6 0))
+    → inventor invented .scan 2 4 M 0 17 (blank 6) ≡ scanOutcome (answer.Done (invented 2 4 M 0 17 (blank 6))) (round commands M (scanStart 6 0))
 unfolding legalPrefix rounds same round command links link mark
 stops-early invented = refl
 
 -- So the engine that does so in every scan breaks it, whatever it invents.
 pub inventor-breaks : (invented : ℕ → ℕ → List ℕ → ℕ → ℕ → List ℕ → ℕ) → Demand2 (inventor invented) → ⊥
-inventor-breaks invented = one-round-breaks (inventor invented) (invented 2 4 M 0 12 (blank 6)) (stops-early invented)
+inventor-breaks invented = one-round-breaks (inventor invented) (invented 2 4 M 0 17 (blank 6)) (stops-early invented)
 
 -- An engine that reports another count than the machine's breaks demand 2 by the rounds alone, whatever its marks are.
-pub miscounting-breaks : (e : Engine) (o k : ℕ) (ws : List ℕ) (x budget : ℕ) (m : List ℕ) (count c : ℕ) → e .forwardScan o k ws x budget m .answer ≡ scanned.Done count
-    → Count forward ws (forwardStart (o + k) x) c → (count ≡ c → ⊥) → Demand2 e → ⊥
+pub miscounting-breaks : (e : Engine) (o k : ℕ) (ws : List ℕ) (x budget : ℕ) (m : List ℕ) (count c : ℕ) → e .scan o k ws x budget m .answer ≡ answer.Done count
+    → Count commands ws (scanStart (o + k) x) c → (count ≡ c → ⊥) → Demand2 e → ⊥
 miscounting-breaks e o k ws x budget m count c h n differ d =
-    differ (count-unique forward ws (forwardStart (o + k) x) count c (d .forwardRounds o k ws x budget m count h .0) n)
+    differ (count-unique commands ws (scanStart (o + k) x) count c (d .scanRounds o k ws x budget m count h .0) n)
 
--- One kind, forward from 0: without words the count is 1, and with word 1 it is 2; in both the first round sets all there is to set.
-count-1 : forwardScanned 0 1 [] 0 2 (blank 1) .answer ≡ scanned.Done 1
+-- One kind, from 0: without words the count is 1, and with word 1 it is 2; in both the first round sets all there is to set.
+count-1 : scanned 0 1 [] 0 2 (blank 1) .answer ≡ answer.Done 1
 unfolding checkNet legalPrefix after rounds same round command links link mark
 count-1 = refl
 
-count-2 : forwardScanned 0 1 (1 ∷ []) 0 2 (blank 1) .answer ≡ scanned.Done 2
+count-2 : scanned 0 1 (1 ∷ []) 0 2 (blank 1) .answer ≡ answer.Done 2
 unfolding checkNet legalPrefix after rounds same round command links link mark
 count-2 = refl
 
 -- One number is not both counts: an engine that reports the same number in both breaks demand 2.
-pub one-number-breaks : (e : Engine) (c : ℕ) → e .forwardScan 0 1 [] 0 2 (blank 1) .answer ≡ scanned.Done c → e .forwardScan 0 1 (1 ∷ []) 0 2 (blank 1) .answer ≡ scanned.Done c
+pub one-number-breaks : (e : Engine) (c : ℕ) → e .scan 0 1 [] 0 2 (blank 1) .answer ≡ answer.Done c → e .scan 0 1 (1 ∷ []) 0 2 (blank 1) .answer ≡ answer.Done c
     → Demand2 e → ⊥
 one-number-breaks e c h g d =
-    miscounting-breaks e 0 1 [] 0 2 (blank 1) c 1 h (demand-2 .forwardRounds 0 1 [] 0 2 (blank 1) 1 count-1 .0)
-    (λ p. miscounting-breaks e 0 1 (1 ∷ []) 0 2 (blank 1) c 2 g (demand-2 .forwardRounds 0 1 (1 ∷ []) 0 2 (blank 1) 2 count-2 .0) (λ q. omega arith) d) d
+    miscounting-breaks e 0 1 [] 0 2 (blank 1) c 1 h (demand-2 .scanRounds 0 1 [] 0 2 (blank 1) 1 count-1 .0)
+    (λ p. miscounting-breaks e 0 1 (1 ∷ []) 0 2 (blank 1) c 2 g (demand-2 .scanRounds 0 1 (1 ∷ []) 0 2 (blank 1) 2 count-2 .0) (λ q. omega arith) d) d
 
 -- What is invented there is what the engine reports.
-reports-1 : (invented : ℕ → ℕ → List ℕ → ℕ → ℕ → List ℕ → ℕ) → inventor invented .forwardScan 0 1 [] 0 2 (blank 1) .answer ≡ scanned.Done (invented 0 1 [] 0 2 (blank 1))
+reports-1 : (invented : ℕ → ℕ → List ℕ → ℕ → ℕ → List ℕ → ℕ) → inventor invented .scan 0 1 [] 0 2 (blank 1) .answer ≡ answer.Done (invented 0 1 [] 0 2 (blank 1))
 unfolding legalPrefix rounds same round command links link mark
 reports-1 invented = refl
 
-reports-2 : (invented : ℕ → ℕ → List ℕ → ℕ → ℕ → List ℕ → ℕ) → inventor invented .forwardScan 0 1 (1 ∷ []) 0 2 (blank 1) .answer ≡ scanned.Done (invented 0 1 (1 ∷ []) 0 2 (blank 1))
+reports-2 : (invented : ℕ → ℕ → List ℕ → ℕ → ℕ → List ℕ → ℕ) → inventor invented .scan 0 1 (1 ∷ []) 0 2 (blank 1) .answer ≡ answer.Done (invented 0 1 (1 ∷ []) 0 2 (blank 1))
 unfolding legalPrefix rounds same round command links link mark
 reports-2 invented = refl
 
@@ -172,21 +172,21 @@ invented-count-breaks c = let one : ℕ → ℕ → List ℕ → ℕ → ℕ →
 
 -- ── one that updates marks inside a command ──
 
--- Net M, forward from 0: it counts 4 rounds, and the machine 5.
-counts-4 : hasty .forwardScan 2 4 M 0 12 (blank 6) ≡ scanOutcome (scanned.Done 4) (1 ∷ 2 ∷ 1 ∷ 2 ∷ 2 ∷ 2 ∷ [])
+-- Net M from 0: it counts 4 rounds, and the machine 5.
+counts-4 : hasty .scan 2 4 M 0 17 (blank 6) ≡ scanOutcome (answer.Done 4) (5 ∷ 2 ∷ 4 ∷ 2 ∷ 2 ∷ 2 ∷ [])
 unfolding legalPrefix same hastyRounds hastyRound hastyLinks link mark
 counts-4 = refl
 
-counts-5 : forwardScanned 2 4 M 0 12 (blank 6) ≡ scanOutcome (scanned.Done 5) (1 ∷ 2 ∷ 1 ∷ 2 ∷ 2 ∷ 2 ∷ [])
+counts-5 : scanned 2 4 M 0 17 (blank 6) ≡ scanOutcome (answer.Done 5) (5 ∷ 2 ∷ 4 ∷ 2 ∷ 2 ∷ 2 ∷ [])
 unfolding legalPrefix rounds same round command links link mark
 counts-5 = refl
 
 -- The marks at the end are those of our engine.
-pub hasty-same-marks : hasty .forwardScan 2 4 M 0 12 (blank 6) .marks ≡ forwardScanned 2 4 M 0 12 (blank 6) .marks
+pub hasty-same-marks : hasty .scan 2 4 M 0 17 (blank 6) .marks ≡ scanned 2 4 M 0 17 (blank 6) .marks
 hasty-same-marks = ap (λ (r : ScanOutcome). r .marks) counts-4 ∙ sym (ap (λ (r : ScanOutcome). r .marks) counts-5)
 
 -- So it breaks demand 2 by its rounds.
 pub hasty-breaks : Demand2 hasty → ⊥
 hasty-breaks =
-    miscounting-breaks hasty 2 4 M 0 12 (blank 6) 4 5 (ap (λ (r : ScanOutcome). r .answer) counts-4)
-    (demand-2 .forwardRounds 2 4 M 0 12 (blank 6) 5 (ap (λ (r : ScanOutcome). r .answer) counts-5) .0) (λ q. omega arith)
+    miscounting-breaks hasty 2 4 M 0 17 (blank 6) 4 5 (ap (λ (r : ScanOutcome). r .answer) counts-4)
+    (demand-2 .scanRounds 2 4 M 0 17 (blank 6) 5 (ap (λ (r : ScanOutcome). r .answer) counts-5) .0) (λ q. omega arith)

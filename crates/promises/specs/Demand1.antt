@@ -1,6 +1,5 @@
 -- Demand 1: whatever numbers and buffers it is lent, each operation on a word or a net gives the number that is due by its table and leaves each buffer as that clause says.
 use Prim.Native.Nat.{ℕ, _+_}
-use mathlib.Core.Bool.{true, false}
 use mathlib.Core.List.{List}
 use Rattle.promises.specs.Tables.{Obeys}
 use Rattle.net.specs.Table.{netTable, netDone}
@@ -19,10 +18,8 @@ use Rattle.promises.specs.Engines.{Engine}
 pub record Demand1 (e : Engine) : Type 0 where
   pub wordCheck : (o k w : ℕ) → Obeys wordNumber (wordTable o k w) Legal (e .wordCheck o k w)
   pub netCheck : (o k : ℕ) (ws : List ℕ) → Obeys checkedNumber (netTable o k ws) (netDone o k) (e .netCheck o k ws)
-  pub forwardScan : (o k : ℕ) (ws : List ℕ) (x budget : ℕ) (m : List ℕ)
-      → Obeys scanNumber (scanTable false o k ws x budget m) (scanDone false ws x budget m (o + k)) (e .forwardScan o k ws x budget m)
-  pub kindScan : (o k : ℕ) (ws : List ℕ) (y budget : ℕ) (m : List ℕ)
-      → Obeys scanNumber (scanTable true o k ws y budget m) (scanDone true ws y budget m (o + k)) (e .kindScan o k ws y budget m)
+  pub scan : (o k : ℕ) (ws : List ℕ) (x budget : ℕ) (m : List ℕ)
+      → Obeys scanNumber (scanTable o k ws x budget m) (scanDone ws x budget m (o + k)) (e .scan o k ws x budget m)
   pub question : (o k : ℕ) (ws : List ℕ) (x y : ℕ) (m : List ℕ)
       → Obeys questionNumber (questionTable o k ws x y m) (questionDone ws x y m (o + k)) (e .question o k ws x y m)
   pub clashTest : (o k : ℕ) (ws m : List ℕ) → Obeys clashNumber (clashTable o k ws m) (clashDone (clashSearch o k ws) m (o + k)) (e .clashTest o k ws m)

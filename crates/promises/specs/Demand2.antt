@@ -8,8 +8,8 @@ use mathlib.Core.Logic.{_↔_}
 use Rattle.theory.specs.Words.{Sign, is, isnt}
 use Rattle.theory.specs.Nets.{Statements, Kind, Links}
 use Rattle.theory.specs.Support.{Supported, Closed}
-use Rattle.theory.specs.Marks.{At, markerOf, U, forward, kindly, forwardStart, kindStart}
-use Rattle.theory.specs.Scans.{after, Count}
+use Rattle.theory.specs.Marks.{At, markerOf, markerTo, commands, scanStart}
+use Rattle.theory.specs.Scans.{after, Count, fullBudget}
 use Rattle.theory.specs.declared.Command.{Command}
 use Rattle.scan.specs.declared.Scanned.the-variants as scanned
 use Rattle.question.specs.declared.Answer.{Answer}
@@ -37,31 +37,24 @@ pub record SpentRounds (cs : List Command) (ws m : List ℕ) (budget count : ℕ
   pub busy : (j : ℕ) → j < budget → after cs ws (suc j) m ≡ after cs ws j m → ⊥
 
 pub record Demand2 (e : Engine) : Type 0 where
-  -- The question: yes exactly if x → y is supported, no exactly if x ↛ y is; its rounds are those of the forward scan, at most 2N.
+  -- The question: yes exactly if x → y is supported, no exactly if x ↛ y is; its rounds are those of the scan from x, within the question's budget.
   pub question : (o k : ℕ) (ws : List ℕ) (x y : ℕ) (m : List ℕ) (a : Answer) (count : ℕ) → e .question o k ws x y m .answer ≡ asked.Done a count
       → (s : Sign) → (says a s ≡ true) ↔ Supported o k (Links ws) x y s
   pub questionRounds : (o k : ℕ) (ws : List ℕ) (x y : ℕ) (m : List ℕ) (a : Answer) (count : ℕ) → e .question o k ws x y m .answer ≡ asked.Done a count
-      → Count forward ws (forwardStart (o + k) x) count × (count ≤ 2 * (o + k))
-  -- The forward scan: the same at every kind; where the budget is spent no mark at a kind is wrong, and there was no quiet round.
-  pub forwardScan : (o k : ℕ) (ws : List ℕ) (x budget : ℕ) (m : List ℕ) (count : ℕ) → e .forwardScan o k ws x budget m .answer ≡ scanned.Done count
-      → (y : ℕ) → Kind o k y → (s : Sign) → At (e .forwardScan o k ws x budget m .marks) (markerOf s) y ↔ Supported o k (Links ws) x y s
-  pub forwardRounds : (o k : ℕ) (ws : List ℕ) (x budget : ℕ) (m : List ℕ) (count : ℕ) → e .forwardScan o k ws x budget m .answer ≡ scanned.Done count
-      → Count forward ws (forwardStart (o + k) x) count × (count ≤ 2 * (o + k))
-  pub forwardSpent : (o k : ℕ) (ws : List ℕ) (x budget : ℕ) (m : List ℕ) (count : ℕ) → e .forwardScan o k ws x budget m .answer ≡ scanned.Spent count
-      → (y : ℕ) → Kind o k y → (s : Sign) → At (e .forwardScan o k ws x budget m .marks) (markerOf s) y → Supported o k (Links ws) x y s
-  pub forwardSpentRounds : (o k : ℕ) (ws : List ℕ) (x budget : ℕ) (m : List ℕ) (count : ℕ) → e .forwardScan o k ws x budget m .answer ≡ scanned.Spent count
-      → SpentRounds forward ws (forwardStart (o + k) x) budget count
-  -- The kind scan: the same at every node, and U at z exactly if y → z; at most 3N − 1 rounds; where the budget is spent no mark is wrong,
-  -- and there was no quiet round.
-  pub kindScan : (o k : ℕ) (ws : List ℕ) (y budget : ℕ) (m : List ℕ) (count : ℕ) → e .kindScan o k ws y budget m .answer ≡ scanned.Done count
-      → (x : ℕ) → x < o + k → (s : Sign) → At (e .kindScan o k ws y budget m .marks) (markerOf s) x ↔ Supported o k (Links ws) x y s
-  pub kindScanUp : (o k : ℕ) (ws : List ℕ) (y budget : ℕ) (m : List ℕ) (count : ℕ) → e .kindScan o k ws y budget m .answer ≡ scanned.Done count
-      → (z : ℕ) → z < o + k → At (e .kindScan o k ws y budget m .marks) U z ↔ Supported o k (Links ws) y z is
-  pub kindRounds : (o k : ℕ) (ws : List ℕ) (y budget : ℕ) (m : List ℕ) (count : ℕ) → e .kindScan o k ws y budget m .answer ≡ scanned.Done count
-      → Count kindly ws (kindStart (o + k) y) count × (count ≤ 3 * (o + k) - 1)
-  pub kindSpent : (o k : ℕ) (ws : List ℕ) (y budget : ℕ) (m : List ℕ) (count : ℕ) → e .kindScan o k ws y budget m .answer ≡ scanned.Spent count
-      → (x : ℕ) → x < o + k → (s : Sign) → At (e .kindScan o k ws y budget m .marks) (markerOf s) x → Supported o k (Links ws) x y s
-  pub kindSpentUp : (o k : ℕ) (ws : List ℕ) (y budget : ℕ) (m : List ℕ) (count : ℕ) → e .kindScan o k ws y budget m .answer ≡ scanned.Spent count
-      → (z : ℕ) → z < o + k → At (e .kindScan o k ws y budget m .marks) U z → Supported o k (Links ws) y z is
-  pub kindSpentRounds : (o k : ℕ) (ws : List ℕ) (y budget : ℕ) (m : List ℕ) (count : ℕ) → e .kindScan o k ws y budget m .answer ≡ scanned.Spent count
-      → SpentRounds kindly ws (kindStart (o + k) y) budget count
+      → Count commands ws (scanStart (o + k) x) count × (count ≤ fullBudget (o + k))
+  -- The scan from x, object or kind, read at a kind y: U exactly if x → y is supported, F exactly if x ↛ y is.
+  pub scan : (o k : ℕ) (ws : List ℕ) (x budget : ℕ) (m : List ℕ) (count : ℕ) → e .scan o k ws x budget m .answer ≡ scanned.Done count
+      → (y : ℕ) → Kind o k y → (s : Sign) → At (e .scan o k ws x budget m .marks) (markerOf s) y ↔ Supported o k (Links ws) x y s
+  -- From a kind x, read at any node z: T exactly if z → x is supported, F exactly if z ↛ x is.
+  pub scanTo : (o k : ℕ) (ws : List ℕ) (x budget : ℕ) (m : List ℕ) (count : ℕ) → e .scan o k ws x budget m .answer ≡ scanned.Done count
+      → Kind o k x → (z : ℕ) → z < o + k → (s : Sign) → At (e .scan o k ws x budget m .marks) (markerTo s) z ↔ Supported o k (Links ws) z x s
+  -- Its rounds, at most 3N − 1.
+  pub scanRounds : (o k : ℕ) (ws : List ℕ) (x budget : ℕ) (m : List ℕ) (count : ℕ) → e .scan o k ws x budget m .answer ≡ scanned.Done count
+      → Count commands ws (scanStart (o + k) x) count × (count ≤ 3 * (o + k) - 1)
+  -- Where the budget is spent none of these marks is wrong, and there was no quiet round.
+  pub scanSpent : (o k : ℕ) (ws : List ℕ) (x budget : ℕ) (m : List ℕ) (count : ℕ) → e .scan o k ws x budget m .answer ≡ scanned.Spent count
+      → (y : ℕ) → Kind o k y → (s : Sign) → At (e .scan o k ws x budget m .marks) (markerOf s) y → Supported o k (Links ws) x y s
+  pub scanSpentTo : (o k : ℕ) (ws : List ℕ) (x budget : ℕ) (m : List ℕ) (count : ℕ) → e .scan o k ws x budget m .answer ≡ scanned.Spent count
+      → Kind o k x → (z : ℕ) → z < o + k → (s : Sign) → At (e .scan o k ws x budget m .marks) (markerTo s) z → Supported o k (Links ws) z x s
+  pub scanSpentRounds : (o k : ℕ) (ws : List ℕ) (x budget : ℕ) (m : List ℕ) (count : ℕ) → e .scan o k ws x budget m .answer ≡ scanned.Spent count
+      → SpentRounds commands ws (scanStart (o + k) x) budget count

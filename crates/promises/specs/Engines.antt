@@ -1,14 +1,18 @@
 -- An engine: what it answers and leaves for each call. The promises are stated of any engine; ours is the one that the operations' statements describe.
-use Prim.Native.Nat.{ℕ}
+use Prim.Native.Nat.{ℕ, _+_}
 use mathlib.Core.Bool.{cond}
-use mathlib.Core.List.{List, _++_}
+use mathlib.Core.List.{List, [], _∷_, _++_}
+use lib.Dec.{ltb}
+use lib.ListN.{length, drop}
 use Rattle.theory.specs.Scans.{Scan}
-use Rattle.net.specs.Table.{checkNet}
+use Rattle.net.specs.Clauses.{clause, call}
+use Rattle.net.specs.Table.{checkNet, netClauses}
+use Rattle.net.specs.declared.Refusal.the-variants.{BadQuestion, ShortBuffer}
 use Rattle.net.specs.declared.Checked.{Checked}
 use Rattle.check_word.specs.Table.{checkWord}
 use Rattle.check_word.specs.declared.WordChecked.{WordChecked}
-use Rattle.scan.specs.Table.{ScanOutcome, scanOutcome, forwardScanned, kindScanned}
-use Rattle.scan.specs.declared.Scanned.the-variants as scanned
+use Rattle.scan.specs.Table.{ScanOutcome, scanOutcome, badStart, scanned}
+use Rattle.scan.specs.declared.Scanned.the-variants as answer
 use Rattle.question.specs.Table.{QuestionOutcome, questioned}
 use Rattle.clash.specs.Table.{ClashOutcome, clashedBy}
 use Rattle.completion.specs.Table.{CompletionOutcome, completedBy}
@@ -16,12 +20,11 @@ use Rattle.reason.specs.Table.{ReasonOutcome, reasoned}
 use Rattle.reason_check.specs.Table.{verdict}
 use Rattle.reason_check.specs.declared.Verdict.{Verdict}
 
--- The nine operations, the test of a word first, each over objects, kinds, words, what is asked, and the lent buffers as they are at entry.
+-- The eight operations, the test of a word first, each over objects, kinds, words, what is asked, and the lent buffers as they are at entry.
 pub record Engine : Type 0 where
   pub wordCheck : ℕ → ℕ → ℕ → WordChecked
   pub netCheck : ℕ → ℕ → List ℕ → Checked
-  pub forwardScan : ℕ → ℕ → List ℕ → ℕ → ℕ → List ℕ → ScanOutcome
-  pub kindScan : ℕ → ℕ → List ℕ → ℕ → ℕ → List ℕ → ScanOutcome
+  pub scan : ℕ → ℕ → List ℕ → ℕ → ℕ → List ℕ → ScanOutcome
   pub question : ℕ → ℕ → List ℕ → ℕ → ℕ → List ℕ → QuestionOutcome
   pub clashTest : ℕ → ℕ → List ℕ → List ℕ → ClashOutcome
   pub completion : ℕ → ℕ → List ℕ → List ℕ → List ℕ → CompletionOutcome
@@ -33,8 +36,7 @@ abbrev pub ours : Engine
 ours = record {
   wordCheck = checkWord;
   netCheck = checkNet;
-  forwardScan = forwardScanned;
-  kindScan = kindScanned;
+  scan = scanned;
   question = questioned;
   clashTest = clashedBy;
   completion = completedBy;
@@ -42,30 +44,26 @@ ours = record {
   reasonCheck = verdict;
 }
 
--- What another scan leaves, done or spent, with the bytes `past` behind its marks.
-abbrev pub ran : Scan → List ℕ → ScanOutcome
-ran s past = scanOutcome (cond (s .done) (scanned.Done (s .count)) (scanned.Spent (s .count))) (s .marks ++ past)
+-- What a scan leaves, done or spent, with the bytes `past` behind its marks.
+abbrev ran : Scan → List ℕ → ScanOutcome
+ran s past = scanOutcome (cond (s .done) (answer.Done (s .count)) (answer.Spent (s .count))) (s .marks ++ past)
 
--- Our engine with another forward scan, kind scan, question or completion.
-abbrev pub withForwardScan : (ℕ → ℕ → List ℕ → ℕ → ℕ → List ℕ → ScanOutcome) → Engine
-withForwardScan f = record {
+-- The scan of another machine, with the right refusals: `run` gets the nodes, the words, the start and the budget.
+abbrev pub scannedBy : (ℕ → List ℕ → ℕ → ℕ → Scan) → ℕ → ℕ → List ℕ → ℕ → ℕ → List ℕ → ScanOutcome
+scannedBy run o k ws x budget m =
+    call
+    (netClauses (λ r. scanOutcome (answer.Refused r) m) o k ws
+    (clause 4 (badStart (o + k) x) (scanOutcome (answer.Refused BadQuestion) m)
+    ∷ clause 5 (ltb (length m) (o + k)) (scanOutcome (answer.Refused ShortBuffer) m)
+    ∷ []))
+    (ran (run (o + k) ws x budget) (drop (o + k) m))
+
+-- Our engine with another scan, question or completion.
+abbrev pub withScan : (ℕ → ℕ → List ℕ → ℕ → ℕ → List ℕ → ScanOutcome) → Engine
+withScan f = record {
   wordCheck = ours .wordCheck;
   netCheck = ours .netCheck;
-  forwardScan = f;
-  kindScan = ours .kindScan;
-  question = ours .question;
-  clashTest = ours .clashTest;
-  completion = ours .completion;
-  reason = ours .reason;
-  reasonCheck = ours .reasonCheck;
-}
-
-abbrev pub withKindScan : (ℕ → ℕ → List ℕ → ℕ → ℕ → List ℕ → ScanOutcome) → Engine
-withKindScan f = record {
-  wordCheck = ours .wordCheck;
-  netCheck = ours .netCheck;
-  forwardScan = ours .forwardScan;
-  kindScan = f;
+  scan = f;
   question = ours .question;
   clashTest = ours .clashTest;
   completion = ours .completion;
@@ -77,8 +75,7 @@ abbrev pub withQuestion : (ℕ → ℕ → List ℕ → ℕ → ℕ → List ℕ
 withQuestion f = record {
   wordCheck = ours .wordCheck;
   netCheck = ours .netCheck;
-  forwardScan = ours .forwardScan;
-  kindScan = ours .kindScan;
+  scan = ours .scan;
   question = f;
   clashTest = ours .clashTest;
   completion = ours .completion;
@@ -90,8 +87,7 @@ abbrev pub withCompletion : (ℕ → ℕ → List ℕ → List ℕ → List ℕ 
 withCompletion f = record {
   wordCheck = ours .wordCheck;
   netCheck = ours .netCheck;
-  forwardScan = ours .forwardScan;
-  kindScan = ours .kindScan;
+  scan = ours .scan;
   question = ours .question;
   clashTest = ours .clashTest;
   completion = f;

@@ -4,6 +4,7 @@ pub mod Engines
 pub mod Demand1
 pub mod Clashing
 pub mod Demand2
+pub mod Forward
 pub mod Reasoning
 pub mod Demand3
 pub mod FromKind

@@ -7,7 +7,7 @@ use Rattle.theory.specs.NetM.{M}
 use Rattle.theory.specs.Scans.{same}
 use Rattle.theory.specs.Downscan.{downscan}
 use Rattle.net.specs.Table.{Reply}
-use Rattle.scan.specs.Table.{ScanOutcome, forwardScanned, kindScanned, scanReply}
+use Rattle.scan.specs.Table.{ScanOutcome, scanned, scanReply}
 use Rattle.question.specs.Table.{QuestionOutcome, questioned, askedReply}
 use Rattle.clash.specs.Table.{ClashOutcome, clashedBy, clashedReply}
 use Rattle.completion.specs.Table.{CompletionOutcome, completedBy, completedReply}
@@ -29,8 +29,8 @@ values r rest = r .number ∷ r .first ∷ r .second ∷ rest
 abbrev pub buffer : List ℕ → List ℕ → List ℕ
 buffer l rest = length l ∷ (l ++ rest)
 
-abbrev pub scanned : ScanOutcome → List ℕ
-scanned r = values (scanReply (r .answer)) (buffer (r .marks) [])
+abbrev pub scans : ScanOutcome → List ℕ
+scans r = values (scanReply (r .answer)) (buffer (r .marks) [])
 
 abbrev pub answered : QuestionOutcome → List ℕ
 answered r = values (askedReply (r .answer)) (buffer (r .marks) [])
@@ -54,17 +54,18 @@ noes m = map (λ (b : ℕ). b / 2 % 2) m
 abbrev pub lent : ℕ → List ℕ
 lent n = replicate n 255
 
--- The readings of forward scans, in the order of the paper.
-abbrev pub forwardReadings : List Reading
-forwardReadings =
-    reading (scanned (forwardScanned 2 4 M 0 5 (lent 7))) (0 ∷ 5 ∷ 0 ∷ 7 ∷ 1 ∷ 2 ∷ 1 ∷ 2 ∷ 2 ∷ 2 ∷ 255 ∷ [])
-    ∷ reading (scanned (forwardScanned 2 4 M 0 4 (lent 7))) (6 ∷ 4 ∷ 0 ∷ 7 ∷ 1 ∷ 2 ∷ 1 ∷ 2 ∷ 2 ∷ 2 ∷ 255 ∷ [])
-    ∷ reading (scanned (forwardScanned 2 4 M 0 1 (lent 7))) (6 ∷ 1 ∷ 0 ∷ 7 ∷ 1 ∷ 0 ∷ 1 ∷ 2 ∷ 0 ∷ 0 ∷ 255 ∷ [])
-    ∷ reading (scanned (forwardScanned 1 2 (2 ∷ 3 ∷ []) 0 6 (lent 4))) (0 ∷ 2 ∷ 0 ∷ 4 ∷ 3 ∷ 3 ∷ 0 ∷ 255 ∷ [])
-    ∷ reading (answered (questioned 1 2 (2 ∷ 3 ∷ []) 0 2 (lent 4))) (0 ∷ 0 ∷ 2 ∷ 4 ∷ 3 ∷ 3 ∷ 0 ∷ 255 ∷ [])
-    ∷ reading (scanned (forwardScanned 0 3 (3 ∷ 2053 ∷ []) 0 6 (lent 4))) (0 ∷ 2 ∷ 0 ∷ 4 ∷ 1 ∷ 2 ∷ 0 ∷ 255 ∷ [])
-    ∷ reading (scanned (forwardScanned 0 1 (1 ∷ []) 0 2 (lent 2))) (0 ∷ 2 ∷ 0 ∷ 2 ∷ 3 ∷ 255 ∷ [])
-    ∷ reading (scanned (forwardScanned 0 1 [] 0 2 (lent 2))) (0 ∷ 1 ∷ 0 ∷ 2 ∷ 1 ∷ 255 ∷ [])
+-- The readings of scans and of a question, in the order of the paper, as [8] takes them.
+abbrev pub scanReadings : List Reading
+scanReadings =
+    reading (scans (scanned 2 4 M 0 5 (lent 7))) (0 ∷ 5 ∷ 0 ∷ 7 ∷ 5 ∷ 2 ∷ 4 ∷ 2 ∷ 2 ∷ 2 ∷ 255 ∷ [])
+    ∷ reading (scans (scanned 2 4 M 0 4 (lent 7))) (6 ∷ 4 ∷ 0 ∷ 7 ∷ 5 ∷ 2 ∷ 4 ∷ 2 ∷ 2 ∷ 2 ∷ 255 ∷ [])
+    ∷ reading (scans (scanned 2 4 M 0 1 (lent 7))) (6 ∷ 1 ∷ 0 ∷ 7 ∷ 5 ∷ 0 ∷ 4 ∷ 2 ∷ 0 ∷ 0 ∷ 255 ∷ [])
+    ∷ reading (scans (scanned 2 4 M 4 17 (lent 7))) (0 ∷ 3 ∷ 0 ∷ 7 ∷ 2 ∷ 1 ∷ 2 ∷ 4 ∷ 5 ∷ 1 ∷ 255 ∷ [])
+    ∷ reading (scans (scanned 1 2 (2 ∷ 3 ∷ []) 0 8 (lent 4))) (0 ∷ 2 ∷ 0 ∷ 4 ∷ 7 ∷ 6 ∷ 0 ∷ 255 ∷ [])
+    ∷ reading (answered (questioned 1 2 (2 ∷ 3 ∷ []) 0 2 (lent 4))) (0 ∷ 0 ∷ 2 ∷ 4 ∷ 7 ∷ 6 ∷ 0 ∷ 255 ∷ [])
+    ∷ reading (scans (scanned 0 3 (3 ∷ 2053 ∷ []) 0 8 (lent 4))) (0 ∷ 2 ∷ 0 ∷ 4 ∷ 5 ∷ 2 ∷ 0 ∷ 255 ∷ [])
+    ∷ reading (scans (scanned 0 1 (1 ∷ []) 0 2 (lent 2))) (0 ∷ 2 ∷ 0 ∷ 2 ∷ 7 ∷ 255 ∷ [])
+    ∷ reading (scans (scanned 0 1 [] 0 2 (lent 2))) (0 ∷ 1 ∷ 0 ∷ 2 ∷ 5 ∷ 255 ∷ [])
     ∷ []
 
 -- Net M completed.
@@ -79,8 +80,7 @@ scratchM = 4 ∷ 65535 ∷ 3 ∷ 65535 ∷ 65535 ∷ 65535 ∷ 65535 ∷ 65535 �
 -- The other readings, in the order of the paper.
 abbrev pub otherReadings : List Reading
 otherReadings =
-    reading (scanned (kindScanned 2 4 M 4 17 (lent 7))) (0 ∷ 3 ∷ 0 ∷ 7 ∷ 2 ∷ 1 ∷ 2 ∷ 4 ∷ 5 ∷ 1 ∷ 255 ∷ [])
-    ∷ reading (noes (downscan 6 M 4 17 .marks)) (0 ∷ 0 ∷ 0 ∷ 0 ∷ 0 ∷ 0 ∷ [])
+    reading (noes (downscan 6 M 4 17 .marks)) (0 ∷ 0 ∷ 0 ∷ 0 ∷ 0 ∷ 0 ∷ [])
     ∷ reading (reasons (reasoned 2 4 M 0 5 1 (lent 13) (lent 8))) (0 ∷ 7 ∷ 0 ∷ 13 ∷ (scratchM ++ (255 ∷ 8 ∷ 2 ∷ 3 ∷ 0 ∷ 2 ∷ 3 ∷ 4 ∷ 5 ∷ 255 ∷ [])))
     ∷ reading (reasons (reasoned 2 4 M 0 5 1 (lent 13) (lent 6))) (8 ∷ 7 ∷ 0 ∷ 13 ∷ (scratchM ++ (255 ∷ 6 ∷ 255 ∷ 255 ∷ 255 ∷ 255 ∷ 255 ∷ 255 ∷ [])))
     ∷ reading (completes (completedBy 2 4 M (lent 7) (lent 22))) (0 ∷ 21 ∷ 0 ∷ 7 ∷ 0 ∷ 0 ∷ 0 ∷ 0 ∷ 0 ∷ 0 ∷ 255 ∷ 22 ∷ (completedM ++ (255 ∷ [])))
@@ -91,7 +91,7 @@ otherReadings =
 
 -- All of them.
 abbrev pub readings : List Reading
-readings = otherReadings ++ forwardReadings
+readings = otherReadings ++ scanReadings
 
 -- Every entry agrees with the paper.
 unfoldable pub allAgree : List Reading → Bool

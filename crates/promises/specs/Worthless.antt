@@ -1,18 +1,15 @@
 -- Four worthless engines, and one that looks right. Each differs from ours only in what is wrong with it.
-use Prim.Native.Nat.{ℕ, zero, suc, _+_, _*_}
-use mathlib.Core.Bool.{Bool, true, false}
+use Prim.Native.Nat.{ℕ, zero, suc, _+_}
+use mathlib.Core.Bool.{true, false}
 use mathlib.Core.List.{List, [], _∷_, _++_}
-use lib.Dec.{ltb}
-use lib.ListN.{length, drop}
-use Rattle.theory.specs.Marks.{link, round, forward, forwardStart}
-use Rattle.theory.specs.Scans.{same, Scan}
+use lib.ListN.{drop}
+use Rattle.theory.specs.Marks.{link, round, commands, scanStart}
+use Rattle.theory.specs.Scans.{same, Scan, fullBudget}
 use Rattle.theory.specs.declared.Command.{Command}
 use Rattle.net.specs.declared.Refusal.{Refusal}
 use Rattle.net.specs.declared.Checked.the-variants as checked
 use Rattle.check_word.specs.declared.WordChecked.the-variants as wordChecked
-use Rattle.scan.specs.Table.{ScanOutcome, scanOutcome, badStart, scanTable}
-use Rattle.scan_start.specs.Starts.{cleared, start}
-use Rattle.scan_round.specs.Turns.{commands}
+use Rattle.scan.specs.Table.{ScanOutcome, scanOutcome, scanTable}
 use Rattle.scan.specs.declared.Scanned.the-variants as scanned
 use Rattle.question.specs.Table.{questionOutcome, questionTable, questioned, readAt}
 use Rattle.clash.specs.Table.{clashOutcome}
@@ -22,21 +19,19 @@ use Rattle.question.specs.declared.Asked.the-variants as asked
 use Rattle.clash.specs.declared.Clashed.the-variants as clashed
 use Rattle.completion.specs.Table.{CompletionOutcome, completionOutcome, completionClauses, completionDone}
 use Rattle.completion.specs.declared.Completed.the-variants as completed
-use Rattle.net.specs.declared.Refusal.the-variants.{BadQuestion, ShortBuffer}
 use Rattle.reason.specs.Table.{reasonOutcome}
 use Rattle.reason.specs.declared.Reasoned.the-variants as reasonedAs
 use Rattle.reason_check.specs.declared.Verdict.the-variants as verdictAs
-use Rattle.net.specs.Clauses.{clause, call}
+use Rattle.net.specs.Clauses.{call}
 use Rattle.net.specs.Table.{netClauses}
-use Rattle.promises.specs.Engines.{Engine, ours, ran, withForwardScan, withQuestion, withCompletion}
+use Rattle.promises.specs.Engines.{Engine, ours, scannedBy, withScan, withQuestion, withCompletion}
 
 -- One that refuses all calls, with the refusal r.
 abbrev pub refuser : Refusal → Engine
 refuser r = record {
   wordCheck = λ o k w. wordChecked.Refused r;
   netCheck = λ o k ws. checked.Refused r;
-  forwardScan = λ o k ws x budget m. scanOutcome (scanned.Refused r) m;
-  kindScan = λ o k ws y budget m. scanOutcome (scanned.Refused r) m;
+  scan = λ o k ws x budget m. scanOutcome (scanned.Refused r) m;
   question = λ o k ws x y m. questionOutcome (asked.Refused r) m;
   clashTest = λ o k ws m. clashOutcome (clashed.Refused r) m;
   completion = λ o k ws m l. completionOutcome (completed.Refused r) m l;
@@ -62,14 +57,14 @@ ownCompletion o k ws m l =
 abbrev pub copier : Engine
 copier = withCompletion ownCompletion
 
--- A forward scan that runs the first round and reports an invented count, with the right refusals, and the right outcome of a budget that is spent.
+-- A scan that runs the first round and reports an invented count, with the right refusals, and the right outcome of a budget that is spent.
 abbrev pub oneRound : (ℕ → ℕ → List ℕ → ℕ → ℕ → List ℕ → ℕ) → ℕ → ℕ → List ℕ → ℕ → ℕ → List ℕ → ScanOutcome
 oneRound invented o k ws x budget m =
-    call (scanTable false o k ws x budget m) (scanOutcome (scanned.Done (invented o k ws x budget m)) (round forward ws (forwardStart (o + k) x) ++ drop (o + k) m))
+    call (scanTable o k ws x budget m) (scanOutcome (scanned.Done (invented o k ws x budget m)) (round commands ws (scanStart (o + k) x) ++ drop (o + k) m))
 
 -- One that does so.
 abbrev pub inventor : (ℕ → ℕ → List ℕ → ℕ → ℕ → List ℕ → ℕ) → Engine
-inventor invented = withForwardScan (oneRound invented)
+inventor invented = withScan (oneRound invented)
 
 -- All links, each tested against the marks that the links before it left, and not against those at the command's beginning.
 unfoldable pub hastyLinks : Command → List ℕ → List ℕ → List ℕ
@@ -89,24 +84,17 @@ hastyRounds cs ws count (suc budget) m =
       | false ↦ hastyRounds cs ws (suc count) budget (hastyRound cs ws m)
     ]
 
--- The two scans by such rounds, with the right refusals.
-abbrev pub hastyScan : Bool → ℕ → ℕ → List ℕ → ℕ → ℕ → List ℕ → ScanOutcome
-hastyScan kind o k ws x budget m =
-    call
-    (netClauses (λ r. scanOutcome (scanned.Refused r) m) o k ws
-    (clause 4 (badStart kind o (o + k) x) (scanOutcome (scanned.Refused BadQuestion) m)
-    ∷ clause 5 (ltb (length m) (o + k)) (scanOutcome (scanned.Refused ShortBuffer) m)
-    ∷ []))
-    (ran (hastyRounds (commands kind) ws 0 budget (start kind (o + k) x)) (drop (o + k) m))
+-- The scan by such rounds.
+abbrev pub hastyScan : ℕ → List ℕ → ℕ → ℕ → Scan
+hastyScan n ws x budget = hastyRounds commands ws 0 budget (scanStart n x)
 
--- One that updates marks inside a command, in both scans and in the question.
+-- One that updates marks inside a command, in the scan and in the question.
 abbrev pub hasty : Engine
 hasty = record {
   wordCheck = ours .wordCheck;
   netCheck = ours .netCheck;
-  forwardScan = hastyScan false;
-  kindScan = hastyScan true;
-  question = λ o k ws x y m. call (questionTable o k ws x y m) (readAt y (hastyRounds forward ws 0 (2 * (o + k)) (forwardStart (o + k) x)) (drop (o + k) m));
+  scan = scannedBy hastyScan;
+  question = λ o k ws x y m. call (questionTable o k ws x y m) (readAt y (hastyScan (o + k) ws x (fullBudget (o + k))) (drop (o + k) m));
   clashTest = ours .clashTest;
   completion = ours .completion;
   reason = ours .reason;

@@ -1,5 +1,5 @@
--- The forward scan with its full budget, in the terms of the code.
-use Prim.Native.Nat.{ℕ, _+_, _*_, _<_, _≤_}
+-- The full scan, in the terms of the code.
+use Prim.Native.Nat.{ℕ, _+_, _<_, _≤_}
 use mathlib.Core.Path.{_≡_, refl, sym, ap, subst, _∙_}
 use mathlib.Core.Bool.{Bool, true, false, cond}
 use mathlib.Core.List.{List, _++_}
@@ -8,11 +8,11 @@ use borrow.Author.Tests.{le-ltb, lt-leb}
 use lib.ListN.{length, take, drop}
 use lib.Seq.{take-at, drop-at, length-front, length-take-le}
 use Rattle.theory.specs.Nets.{Net}
-use Rattle.theory.specs.Marks.{forward, forwardStart}
-use Rattle.theory.specs.Scans.{fullScan}
+use Rattle.theory.specs.Marks.{commands, scanStart}
+use Rattle.theory.specs.Scans.{fullBudget, fullScan}
 use Rattle.theory.specs.Inside.{Inside}
 use Rattle.theory.proofs.Inside.{legal-inside}
-use Rattle.theory.proofs.machine.Bounds.{forward-scan-long}
+use Rattle.theory.proofs.machine.Bounds.{scan-long}
 use Rattle.net.specs.Clauses.{call}
 use Rattle.scan.proofs.Outcomes.{scanEnd, scan-end}
 use Rattle.scan.specs.Table.{ScanOutcome, scanOutcome, scanClauses, scanDone}
@@ -35,9 +35,9 @@ count-ran false c = refl
 
 -- What the code is left with where it scanned with the full budget: the answer r and the marks m′.
 module _ (o k n : ℕ) (ws : List ℕ) (net : Net o k ws) (e : n ≡ o + k) (x : ℕ) (h : x < n) (m : List ℕ) (l : n ≤ length m) {r : Scanned} {m′ : List ℕ}
-    (ran : scanOutcome r m′ ≡ call (scanClauses false o ws x (2 * n) m n) (scanDone false ws x (2 * n) m n)) where
+    (ran : scanOutcome r m′ ≡ call (scanClauses ws x (fullBudget n) m n) (scanDone ws x (fullBudget n) m n)) where
   full-ran : scanOutcome r m′ ≡ scanEnd (record { done = fullScan n ws x .done; count = fullScan n ws x .count; marks = fullScan n ws x .marks ++ drop n m })
-  full-ran = ran ∙ rw (lt-leb n x h, le-ltb (length m) n l) (sym (scan-end forward ws (forwardStart n x) (2 * n) (drop n m)))
+  full-ran = ran ∙ rw (lt-leb n x h, le-ltb (length m) n l) (sym (scan-end commands ws (scanStart n x) (fullBudget n) (drop n m)))
 
   full-count : countOf r ≡ fullScan n ws x .count
   full-count = ap (λ (q : ScanOutcome). countOf (q .answer)) full-ran ∙ count-ran (fullScan n ws x .done) (fullScan n ws x .count)
@@ -46,7 +46,7 @@ module _ (o k n : ℕ) (ws : List ℕ) (net : Net o k ws) (e : n ≡ o + k) (x :
   full-marks = ap (λ (q : ScanOutcome). q .marks) full-ran
 
   full-long : length (fullScan n ws x .marks) ≡ n
-  full-long = subst (λ (i : ℕ). length (fullScan i ws x .marks) ≡ i) (sym e) (forward-scan-long o k ws (net .legal) x (omega arith) (2 * (o + k)))
+  full-long = subst (λ (i : ℕ). length (fullScan i ws x .marks) ≡ i) (sym e) (scan-long o k ws (net .legal) x (omega arith) (fullBudget (o + k)))
 
   -- The count, the marks of the nodes, the bytes past them as they were, and as many bytes as there were.
   pub full-left : (countOf r ≡ fullScan n ws x .count) × ((take n m′ ≡ fullScan n ws x .marks) × ((drop n m′ ≡ drop n m) × (length m′ ≡ length m)))

@@ -17,19 +17,19 @@ abbrev left : List ℕ
 left = 255 ∷ 7 ∷ 9 ∷ 3 ∷ 1 ∷ 128 ∷ 200 ∷ 201 ∷ []
 
 -- The five questions about net M.
-pub ask-0-4 : questioned 2 4 M 0 4 left ≡ questionOutcome (asked.Done No 5) (1 ∷ 2 ∷ 1 ∷ 2 ∷ 2 ∷ 2 ∷ 200 ∷ 201 ∷ [])
+pub ask-0-4 : questioned 2 4 M 0 4 left ≡ questionOutcome (asked.Done No 5) (5 ∷ 2 ∷ 4 ∷ 2 ∷ 2 ∷ 2 ∷ 200 ∷ 201 ∷ [])
 unfolding legalPrefix rounds same round command links link mark
 ask-0-4 = refl
 
-pub ask-1-4 : questioned 2 4 M 1 4 left ≡ questionOutcome (asked.Done Yes 5) (2 ∷ 1 ∷ 2 ∷ 1 ∷ 1 ∷ 1 ∷ 200 ∷ 201 ∷ [])
+pub ask-1-4 : questioned 2 4 M 1 4 left ≡ questionOutcome (asked.Done Yes 5) (2 ∷ 5 ∷ 2 ∷ 4 ∷ 4 ∷ 4 ∷ 200 ∷ 201 ∷ [])
 unfolding legalPrefix rounds same round command links link mark
 ask-1-4 = refl
 
-pub ask-2-5 : questioned 2 4 M 2 5 left ≡ questionOutcome (asked.Done No 5) (0 ∷ 2 ∷ 1 ∷ 2 ∷ 2 ∷ 2 ∷ 200 ∷ 201 ∷ [])
+pub ask-2-5 : questioned 2 4 M 2 5 left ≡ questionOutcome (asked.Done No 5) (1 ∷ 2 ∷ 5 ∷ 2 ∷ 2 ∷ 2 ∷ 200 ∷ 201 ∷ [])
 unfolding legalPrefix rounds same round command links link mark
 ask-2-5 = refl
 
-pub ask-3-4 : questioned 2 4 M 3 4 left ≡ questionOutcome (asked.Done None 3) (2 ∷ 0 ∷ 2 ∷ 1 ∷ 0 ∷ 0 ∷ 200 ∷ 201 ∷ [])
+pub ask-3-4 : questioned 2 4 M 3 4 left ≡ questionOutcome (asked.Done None 4) (2 ∷ 1 ∷ 2 ∷ 5 ∷ 1 ∷ 1 ∷ 200 ∷ 201 ∷ [])
 unfolding legalPrefix rounds same round command links link mark
 ask-3-4 = refl
 
@@ -46,15 +46,15 @@ pub ask-bad-first : questioned 2 4 M 6 4 [] ≡ questionOutcome (asked.Refused B
 unfolding legalPrefix rounds same round command links link mark
 ask-bad-first = refl
 
-pub ask-short : questioned 2 4 M 0 4 (255 ∷ 7 ∷ 9 ∷ 3 ∷ 1 ∷ []) ≡ questionOutcome (asked.Refused ShortBuffer) (255 ∷ 7 ∷ 9 ∷ 3 ∷ 1 ∷ [])
+pub ask-short-buffer : questioned 2 4 M 0 4 (255 ∷ 7 ∷ 9 ∷ 3 ∷ 1 ∷ []) ≡ questionOutcome (asked.Refused ShortBuffer) (255 ∷ 7 ∷ 9 ∷ 3 ∷ 1 ∷ [])
 unfolding legalPrefix rounds same round command links link mark
-ask-short = refl
+ask-short-buffer = refl
 
 -- An object that is and is not a kind: both there, and about the other kind nothing is said.
-pub ask-0-1 : questioned 1 2 (2 ∷ 3 ∷ []) 0 1 (0 ∷ 0 ∷ 0 ∷ []) ≡ questionOutcome (asked.Done Both 2) (3 ∷ 3 ∷ 0 ∷ [])
+pub ask-0-1 : questioned 1 2 (2 ∷ 3 ∷ []) 0 1 (0 ∷ 0 ∷ 0 ∷ []) ≡ questionOutcome (asked.Done Both 2) (7 ∷ 6 ∷ 0 ∷ [])
 unfolding legalPrefix rounds same round command links link mark
 ask-0-1 = refl
 
-pub ask-0-2 : questioned 1 2 (2 ∷ 3 ∷ []) 0 2 (0 ∷ 0 ∷ 0 ∷ []) ≡ questionOutcome (asked.Done None 2) (3 ∷ 3 ∷ 0 ∷ [])
+pub ask-0-2 : questioned 1 2 (2 ∷ 3 ∷ []) 0 2 (0 ∷ 0 ∷ 0 ∷ []) ≡ questionOutcome (asked.Done None 2) (7 ∷ 6 ∷ 0 ∷ [])
 unfolding legalPrefix rounds same round command links link mark
 ask-0-2 = refl

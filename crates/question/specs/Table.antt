@@ -14,7 +14,7 @@ use Rattle.question.specs.declared.Answer.the-variants.{None, Yes, No, B
 use Rattle.question.specs.declared.Asked.{Asked}
 use Rattle.question.specs.declared.Asked.the-variants as asked
 
--- What a byte at a kind answers.
+-- What the byte at a kind answers.
 abbrev pub answerAt : ℕ → Answer
 answerAt b = cond (saysYes b) (cond (saysNo b) Both Yes) (cond (saysNo b) No None)
 

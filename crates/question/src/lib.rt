@@ -4,7 +4,7 @@ ghost use Prim.Native.Nat.{_+_, _<_, _≤_};
 ghost use lib.ListN.{length, take, drop};
 ghost use Rattle.theory.specs.Nets.{Net};
 ghost use Rattle.theory.specs.Scans.{fullScan};
-ghost use Rattle.question.specs.Table.{answerAt, questionOutcome, questionClauses, questionDone, questionTable};
+ghost use Rattle.question.specs.Table.{answerAt, questionOutcome, questionClauses, questionDone, questioned};
 ghost use Rattle.net.specs.Clauses.{call};
 use net::Checked;
 use net::Refusal;
@@ -38,7 +38,7 @@ pub fn full_scan(o: u32, k: u32, n: usize, words: &[u32], x: u32, marks: &mut [u
     ensures past { λ r. ⌜ drop n (now (marks .exit)) ≡ drop n (now (marks .entry)) ⌝ }
     ensures long { λ r. ⌜ length (now (marks .exit)) ≡ length (now (marks .entry)) ⌝ }
 {
-    let ran = scan_net(false, o, n, words, x, (2 * n) as u32, marks);
+    let ran = scan_net(n, words, x, (3 * n - 1) as u32, marks);
     match ran {
         Scanned::Done(count) => count,
         Scanned::Spent(count) => count,
@@ -46,11 +46,11 @@ pub fn full_scan(o: u32, k: u32, n: usize, words: &[u32], x: u32, marks: &mut [u
     }
 }
 
-// What a byte at a kind answers.
+// What the byte at a kind answers: U says yes, F says no.
 fn answer_at(byte: u8) -> Answer
     ensures { λ r. ⌜ r ≡ answerAt byte ⌝ }
 {
-    if byte % 2 == 1 {
+    if byte / 4 % 2 == 1 {
         if byte / 2 % 2 == 1 {
             Answer::Both
         } else {
@@ -65,17 +65,17 @@ fn answer_at(byte: u8) -> Answer
 
 // The question whether `x` is `y`.
 pub fn ask_question(o: u32, k: u32, words: &[u32], x: u32, y: u32, marks: &mut [u8]) -> Asked
-    ensures { λ r. ⌜ questionOutcome r (now (marks .exit)) ≡ call (questionTable o k (now (words .entry)) x y (now (marks .entry))) (questionDone (now (words .entry)) x y (now (marks .entry)) (o + k)) ⌝ }
+    ensures { λ r. ⌜ questionOutcome r (now (marks .exit)) ≡ questioned o k (now (words .entry)) x y (now (marks .entry)) ⌝ }
 {
     let net = check_net(o, k, words);
     match net {
         Checked::Refused(refusal) => Asked::Refused(refusal),
-        Checked::Nodes(n) => ask_net(o, k, n, words, x, y, marks),
+        Checked::Nodes(n) => question_net(o, k, n, words, x, y, marks),
     }
 }
 
 // Numbers 4, 5 and 0, on a net that was checked.
-fn ask_net(o: u32, k: u32, n: usize, words: &[u32], x: u32, y: u32, marks: &mut [u8]) -> Asked
+fn question_net(o: u32, k: u32, n: usize, words: &[u32], x: u32, y: u32, marks: &mut [u8]) -> Asked
     requires net { ⌜ Net o k (now words) ⌝ }
     requires size { ⌜ n ≡ o + k ⌝ }
     ensures { λ r. ⌜ questionOutcome r (now (marks .exit)) ≡ call (questionClauses o x y (now (marks .entry)) n) (questionDone (now (words .entry)) x y (now (marks .entry)) n) ⌝ }

@@ -18,8 +18,7 @@ pub fn on_word(n: Numbers) -> Reply {
 // An operation that is lent marks alone.
 pub fn on_marks(operation: Operation, n: Numbers, words: &[u32], marks: &mut [u8]) -> Reply {
     match operation {
-        Operation::ForwardScan => second::forward_scan(n.o, n.k, words, n.x, n.y, marks),
-        Operation::KindScan => second::kind_scan(n.o, n.k, words, n.x, n.y, marks),
+        Operation::Scan => second::scan(n.o, n.k, words, n.x, n.y, marks),
         Operation::Question => second::question(n.o, n.k, words, n.x, n.y, marks),
         _ => second::clash(n.o, n.k, words, marks),
     }

@@ -12,11 +12,10 @@ use strumelka::strumelka_check_net;
 use strumelka::strumelka_check_word;
 use strumelka::strumelka_clash;
 use strumelka::strumelka_completion;
-use strumelka::strumelka_forward_scan;
-use strumelka::strumelka_kind_scan;
 use strumelka::strumelka_question;
 use strumelka::strumelka_reason;
 use strumelka::strumelka_reason_check;
+use strumelka::strumelka_scan;
 
 // The check of a net.
 pub fn on_words(n: Numbers, words: &[u32]) -> Reply {
@@ -31,15 +30,7 @@ pub fn on_word(n: Numbers) -> Reply {
 // An operation that is lent marks alone.
 pub fn on_marks(operation: Operation, n: Numbers, words: &[u32], marks: &mut [u8]) -> Reply {
     match operation {
-        Operation::ForwardScan => reply_given(strumelka_forward_scan(
-            n.o,
-            n.k,
-            words,
-            n.x,
-            n.y,
-            marks,
-        )),
-        Operation::KindScan => reply_given(strumelka_kind_scan(n.o, n.k, words, n.x, n.y, marks)),
+        Operation::Scan => reply_given(strumelka_scan(n.o, n.k, words, n.x, n.y, marks)),
         Operation::Question => reply_given(strumelka_question(n.o, n.k, words, n.x, n.y, marks)),
         _ => reply_given(strumelka_clash(n.o, n.k, words, marks)),
     }

@@ -17,8 +17,7 @@ use crate::places::same_bytes;
 pub enum Operation {
     CheckNet,
     CheckWord,
-    ForwardScan,
-    KindScan,
+    Scan,
     Question,
     Completion,
     Clash,
@@ -62,11 +61,8 @@ pub fn operation_of(name: &[u8]) -> Operation {
     if same_bytes(name, b"check_word") {
         return Operation::CheckWord;
     }
-    if same_bytes(name, b"forward_scan") {
-        return Operation::ForwardScan;
-    }
-    if same_bytes(name, b"kind_scan") {
-        return Operation::KindScan;
+    if same_bytes(name, b"scan") {
+        return Operation::Scan;
     }
     if same_bytes(name, b"question") {
         return Operation::Question;
@@ -103,8 +99,7 @@ fn letter_at(operation: Operation, at: usize) -> u8 {
     match operation {
         Operation::CheckNet => byte_at(b"nnw", at),
         Operation::CheckWord => byte_at(b"nnn", at),
-        Operation::ForwardScan => byte_at(b"nnwnnm", at),
-        Operation::KindScan => byte_at(b"nnwnnm", at),
+        Operation::Scan => byte_at(b"nnwnnm", at),
         Operation::Question => byte_at(b"nnwnnm", at),
         Operation::Completion => byte_at(b"nnwmc", at),
         Operation::Clash => byte_at(b"nnwm", at),

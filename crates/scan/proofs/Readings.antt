@@ -1,4 +1,4 @@
--- Readings of the two scans, by computation.
+-- Readings of the scan, by computation.
 use mathlib.Core.Path.{_≡_, refl}
 use mathlib.Core.List.{[], _∷_}
 use Rattle.theory.specs.Marks.{mark, link, links, command, round}
@@ -7,112 +7,104 @@ use Rattle.theory.specs.NetM.{M}
 use Rattle.net.specs.Legal.{legalPrefix}
 use Rattle.net.specs.declared.Cause.the-variants.{Head}
 use Rattle.net.specs.declared.Refusal.the-variants.{TooManyNodes, IllegalWord, BadQuestion, ShortBuffer}
-use Rattle.scan.specs.Table.{scanOutcome, forwardScanned, kindScanned}
+use Rattle.scan.specs.Table.{scanOutcome, scanned}
 use Rattle.scan.specs.declared.Scanned.the-variants.{Done, Spent, Refused}
 
--- Net M, forward from 0: budget 5 is enough.
-pub forward-5 : forwardScanned 2 4 M 0 5 (255 ∷ 7 ∷ 9 ∷ 3 ∷ 1 ∷ 128 ∷ []) ≡ scanOutcome (Done 5) (1 ∷ 2 ∷ 1 ∷ 2 ∷ 2 ∷ 2 ∷ [])
+-- Net M from 0, an object: budget 5 is enough.
+pub budget-5 : scanned 2 4 M 0 5 (255 ∷ 7 ∷ 9 ∷ 3 ∷ 1 ∷ 128 ∷ []) ≡ scanOutcome (Done 5) (5 ∷ 2 ∷ 4 ∷ 2 ∷ 2 ∷ 2 ∷ [])
 unfolding legalPrefix after rounds same round command links link mark
-forward-5 = refl
+budget-5 = refl
 
 -- Budget 4 is spent, with the same marks.
-pub forward-4 : forwardScanned 2 4 M 0 4 (255 ∷ 7 ∷ 9 ∷ 3 ∷ 1 ∷ 128 ∷ []) ≡ scanOutcome (Spent 4) (1 ∷ 2 ∷ 1 ∷ 2 ∷ 2 ∷ 2 ∷ [])
+pub budget-4 : scanned 2 4 M 0 4 (255 ∷ 7 ∷ 9 ∷ 3 ∷ 1 ∷ 128 ∷ []) ≡ scanOutcome (Spent 4) (5 ∷ 2 ∷ 4 ∷ 2 ∷ 2 ∷ 2 ∷ [])
 unfolding legalPrefix after rounds same round command links link mark
-forward-4 = refl
+budget-4 = refl
 
 -- Budget 1 leaves the marks after one round.
-pub forward-1 : forwardScanned 2 4 M 0 1 (255 ∷ 7 ∷ 9 ∷ 3 ∷ 1 ∷ 128 ∷ []) ≡ scanOutcome (Spent 1) (1 ∷ 0 ∷ 1 ∷ 2 ∷ 0 ∷ 0 ∷ [])
+pub budget-1 : scanned 2 4 M 0 1 (255 ∷ 7 ∷ 9 ∷ 3 ∷ 1 ∷ 128 ∷ []) ≡ scanOutcome (Spent 1) (5 ∷ 0 ∷ 4 ∷ 2 ∷ 0 ∷ 0 ∷ [])
 unfolding legalPrefix after rounds same round command links link mark
-forward-1 = refl
+budget-1 = refl
 
 -- Budget 0 leaves the start.
-pub forward-0 : forwardScanned 2 4 M 0 0 (255 ∷ 7 ∷ 9 ∷ 3 ∷ 1 ∷ 128 ∷ []) ≡ scanOutcome (Spent 0) (1 ∷ 0 ∷ 0 ∷ 0 ∷ 0 ∷ 0 ∷ [])
+pub budget-0 : scanned 2 4 M 0 0 (255 ∷ 7 ∷ 9 ∷ 3 ∷ 1 ∷ 128 ∷ []) ≡ scanOutcome (Spent 0) (5 ∷ 0 ∷ 0 ∷ 0 ∷ 0 ∷ 0 ∷ [])
 unfolding legalPrefix after rounds same round command links link mark
-forward-0 = refl
+budget-0 = refl
 
 -- Two bytes past the nodes are kept.
-pub forward-5-past : forwardScanned 2 4 M 0 5 (255 ∷ 7 ∷ 9 ∷ 3 ∷ 1 ∷ 128 ∷ 200 ∷ 201 ∷ []) ≡ scanOutcome (Done 5) (1 ∷ 2 ∷ 1 ∷ 2 ∷ 2 ∷ 2 ∷ 200 ∷ 201 ∷ [])
+pub budget-5-past : scanned 2 4 M 0 5 (255 ∷ 7 ∷ 9 ∷ 3 ∷ 1 ∷ 128 ∷ 200 ∷ 201 ∷ []) ≡ scanOutcome (Done 5) (5 ∷ 2 ∷ 4 ∷ 2 ∷ 2 ∷ 2 ∷ 200 ∷ 201 ∷ [])
 unfolding legalPrefix after rounds same round command links link mark
-forward-5-past = refl
+budget-5-past = refl
 
-pub forward-4-past : forwardScanned 2 4 M 0 4 (255 ∷ 7 ∷ 9 ∷ 3 ∷ 1 ∷ 128 ∷ 200 ∷ 201 ∷ []) ≡ scanOutcome (Spent 4) (1 ∷ 2 ∷ 1 ∷ 2 ∷ 2 ∷ 2 ∷ 200 ∷ 201 ∷ [])
+pub budget-4-past : scanned 2 4 M 0 4 (255 ∷ 7 ∷ 9 ∷ 3 ∷ 1 ∷ 128 ∷ 200 ∷ 201 ∷ []) ≡ scanOutcome (Spent 4) (5 ∷ 2 ∷ 4 ∷ 2 ∷ 2 ∷ 2 ∷ 200 ∷ 201 ∷ [])
 unfolding legalPrefix after rounds same round command links link mark
-forward-4-past = refl
+budget-4-past = refl
 
-pub forward-1-past : forwardScanned 2 4 M 0 1 (255 ∷ 7 ∷ 9 ∷ 3 ∷ 1 ∷ 128 ∷ 200 ∷ 201 ∷ []) ≡ scanOutcome (Spent 1) (1 ∷ 0 ∷ 1 ∷ 2 ∷ 0 ∷ 0 ∷ 200 ∷ 201 ∷ [])
+pub budget-1-past : scanned 2 4 M 0 1 (255 ∷ 7 ∷ 9 ∷ 3 ∷ 1 ∷ 128 ∷ 200 ∷ 201 ∷ []) ≡ scanOutcome (Spent 1) (5 ∷ 0 ∷ 4 ∷ 2 ∷ 0 ∷ 0 ∷ 200 ∷ 201 ∷ [])
 unfolding legalPrefix after rounds same round command links link mark
-forward-1-past = refl
+budget-1-past = refl
 
--- Net M, kind scan from 4: three rounds, within the bound 3N − 1 and within the largest budget.
-pub kind-17 : kindScanned 2 4 M 4 17 (255 ∷ 7 ∷ 9 ∷ 3 ∷ 1 ∷ 128 ∷ []) ≡ scanOutcome (Done 3) (2 ∷ 1 ∷ 2 ∷ 4 ∷ 5 ∷ 1 ∷ [])
+-- Net M from 4, a kind: three rounds, within the bound 3N − 1 and within the largest budget.
+pub from-kind : scanned 2 4 M 4 17 (255 ∷ 7 ∷ 9 ∷ 3 ∷ 1 ∷ 128 ∷ []) ≡ scanOutcome (Done 3) (2 ∷ 1 ∷ 2 ∷ 4 ∷ 5 ∷ 1 ∷ [])
 unfolding legalPrefix after rounds same round command links link mark
-kind-17 = refl
+from-kind = refl
 
-pub kind-largest : kindScanned 2 4 M 4 4294967295 (255 ∷ 7 ∷ 9 ∷ 3 ∷ 1 ∷ 128 ∷ []) ≡ scanOutcome (Done 3) (2 ∷ 1 ∷ 2 ∷ 4 ∷ 5 ∷ 1 ∷ [])
+pub largest-budget : scanned 2 4 M 4 4294967295 (255 ∷ 7 ∷ 9 ∷ 3 ∷ 1 ∷ 128 ∷ []) ≡ scanOutcome (Done 3) (2 ∷ 1 ∷ 2 ∷ 4 ∷ 5 ∷ 1 ∷ [])
 unfolding legalPrefix after rounds same round command links link mark
-kind-largest = refl
+largest-budget = refl
 
--- An object with both marks at a kind, and nothing about the other kind.
-pub both-marks : forwardScanned 1 2 (2 ∷ 3 ∷ []) 0 6 (0 ∷ 0 ∷ 0 ∷ []) ≡ scanOutcome (Done 2) (3 ∷ 3 ∷ 0 ∷ [])
+-- An object with yes and no at a kind, and nothing about the other kind.
+pub both-marks : scanned 1 2 (2 ∷ 3 ∷ []) 0 8 (0 ∷ 0 ∷ 0 ∷ []) ≡ scanOutcome (Done 2) (7 ∷ 6 ∷ 0 ∷ [])
 unfolding legalPrefix after rounds same round command links link mark
 both-marks = refl
 
 -- Two "is not" links do not cancel.
-pub no-cancelling : forwardScanned 0 3 (3 ∷ 2053 ∷ []) 0 6 (0 ∷ 0 ∷ 0 ∷ []) ≡ scanOutcome (Done 2) (1 ∷ 2 ∷ 0 ∷ [])
+pub no-cancelling : scanned 0 3 (3 ∷ 2053 ∷ []) 0 8 (0 ∷ 0 ∷ 0 ∷ []) ≡ scanOutcome (Done 2) (5 ∷ 2 ∷ 0 ∷ [])
 unfolding legalPrefix after rounds same round command links link mark
 no-cancelling = refl
 
 -- A kind that is not itself.
-pub not-itself : forwardScanned 0 1 (1 ∷ []) 0 2 (0 ∷ []) ≡ scanOutcome (Done 2) (3 ∷ [])
+pub not-itself : scanned 0 1 (1 ∷ []) 0 2 (0 ∷ []) ≡ scanOutcome (Done 2) (7 ∷ [])
 unfolding legalPrefix after rounds same round command links link mark
 not-itself = refl
 
 -- A kind without links.
-pub no-links : forwardScanned 0 1 [] 0 2 (0 ∷ []) ≡ scanOutcome (Done 1) (1 ∷ [])
+pub no-links : scanned 0 1 [] 0 2 (0 ∷ []) ≡ scanOutcome (Done 1) (5 ∷ [])
 unfolding legalPrefix after rounds same round command links link mark
 no-links = refl
 
 -- 1,024 nodes are accepted: the first thing wrong is the buffer.
-pub nodes-1024 : forwardScanned 1000 24 [] 0 1 [] ≡ scanOutcome (Refused ShortBuffer) []
+pub nodes-1024 : scanned 1000 24 [] 0 1 [] ≡ scanOutcome (Refused ShortBuffer) []
 unfolding legalPrefix after rounds same round command links link mark
 nodes-1024 = refl
 
 -- 1,025 nodes are too many, and so are 4,294,967,295 objects and a kind.
-pub nodes-1025 : forwardScanned 1000 25 [] 0 1 [] ≡ scanOutcome (Refused TooManyNodes) []
+pub nodes-1025 : scanned 1000 25 [] 0 1 [] ≡ scanOutcome (Refused TooManyNodes) []
 unfolding legalPrefix after rounds same round command links link mark
 nodes-1025 = refl
 
-pub nodes-2-32 : forwardScanned 4294967295 1 [] 0 1 [] ≡ scanOutcome (Refused TooManyNodes) []
+pub nodes-2-32 : scanned 4294967295 1 [] 0 1 [] ≡ scanOutcome (Refused TooManyNodes) []
 unfolding legalPrefix after rounds same round command links link mark
 nodes-2-32 = refl
 
 -- With one object and one kind word 2 is legal, and word 0, whose head is the object, is not.
-pub word-2-legal : forwardScanned 1 1 (2 ∷ []) 0 4 (7 ∷ 7 ∷ []) ≡ scanOutcome (Done 2) (1 ∷ 1 ∷ [])
+pub word-2-legal : scanned 1 1 (2 ∷ []) 0 4 (7 ∷ 7 ∷ []) ≡ scanOutcome (Done 2) (5 ∷ 4 ∷ [])
 unfolding legalPrefix after rounds same round command links link mark
 word-2-legal = refl
 
-pub word-0-illegal : forwardScanned 1 1 (0 ∷ []) 0 4 (7 ∷ 7 ∷ []) ≡ scanOutcome (Refused (IllegalWord 0 Head)) (7 ∷ 7 ∷ [])
+pub word-0-illegal : scanned 1 1 (0 ∷ []) 0 4 (7 ∷ 7 ∷ []) ≡ scanOutcome (Refused (IllegalWord 0 Head)) (7 ∷ 7 ∷ [])
 unfolding legalPrefix after rounds same round command links link mark
 word-0-illegal = refl
 
--- The kind scan does not start from an object, and neither scan from what is no node.
-pub kind-from-object : kindScanned 2 4 M 1 17 (255 ∷ 7 ∷ 9 ∷ 3 ∷ 1 ∷ 128 ∷ []) ≡ scanOutcome (Refused BadQuestion) (255 ∷ 7 ∷ 9 ∷ 3 ∷ 1 ∷ 128 ∷ [])
+-- What is no node is no start.
+pub from-no-node : scanned 2 4 M 6 17 (255 ∷ 7 ∷ 9 ∷ 3 ∷ 1 ∷ 128 ∷ []) ≡ scanOutcome (Refused BadQuestion) (255 ∷ 7 ∷ 9 ∷ 3 ∷ 1 ∷ 128 ∷ [])
 unfolding legalPrefix after rounds same round command links link mark
-kind-from-object = refl
-
-pub kind-from-no-node : kindScanned 2 4 M 6 17 (255 ∷ 7 ∷ 9 ∷ 3 ∷ 1 ∷ 128 ∷ []) ≡ scanOutcome (Refused BadQuestion) (255 ∷ 7 ∷ 9 ∷ 3 ∷ 1 ∷ 128 ∷ [])
-unfolding legalPrefix after rounds same round command links link mark
-kind-from-no-node = refl
-
-pub forward-from-no-node : forwardScanned 2 4 M 6 12 (255 ∷ 7 ∷ 9 ∷ 3 ∷ 1 ∷ 128 ∷ []) ≡ scanOutcome (Refused BadQuestion) (255 ∷ 7 ∷ 9 ∷ 3 ∷ 1 ∷ 128 ∷ [])
-unfolding legalPrefix after rounds same round command links link mark
-forward-from-no-node = refl
+from-no-node = refl
 
 -- A byte too few is number 5, and a bad start comes before it.
-pub short-buffer : forwardScanned 2 4 M 0 12 (255 ∷ 7 ∷ 9 ∷ 3 ∷ 1 ∷ []) ≡ scanOutcome (Refused ShortBuffer) (255 ∷ 7 ∷ 9 ∷ 3 ∷ 1 ∷ [])
+pub short-buffer : scanned 2 4 M 0 17 (255 ∷ 7 ∷ 9 ∷ 3 ∷ 1 ∷ []) ≡ scanOutcome (Refused ShortBuffer) (255 ∷ 7 ∷ 9 ∷ 3 ∷ 1 ∷ [])
 unfolding legalPrefix after rounds same round command links link mark
 short-buffer = refl
 
-pub bad-start-first : kindScanned 2 4 M 1 17 (255 ∷ 7 ∷ 9 ∷ 3 ∷ 1 ∷ []) ≡ scanOutcome (Refused BadQuestion) (255 ∷ 7 ∷ 9 ∷ 3 ∷ 1 ∷ [])
+pub bad-start-first : scanned 2 4 M 6 17 (255 ∷ 7 ∷ 9 ∷ 3 ∷ 1 ∷ []) ≡ scanOutcome (Refused BadQuestion) (255 ∷ 7 ∷ 9 ∷ 3 ∷ 1 ∷ [])
 unfolding legalPrefix after rounds same round command links link mark
 bad-start-first = refl

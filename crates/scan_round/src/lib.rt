@@ -1,12 +1,11 @@
-// One round: a list of commands, one after another.
+// One round: the five commands, one after another.
 ghost use mathlib.Core.Path.{_≡_};
 ghost use Prim.Native.Nat.{_≤_};
 ghost use lib.ListN.{length};
-ghost use Rattle.theory.specs.Marks.{round};
+ghost use Rattle.theory.specs.Marks.{commands, round};
 ghost use Rattle.theory.specs.Inside.{Inside};
 ghost use Rattle.theory.specs.Growth.{Set};
 ghost use Rattle.scan_start.specs.Starts.{Low};
-ghost use Rattle.scan_round.specs.Turns.{commands};
 use scan_command::run_command;
 use theory::Command;
 
@@ -25,13 +24,6 @@ const IS_TO_TAIL_T: Command = Command {
     put: T,
 };
 
-const IS_TO_HEAD_T: Command = Command {
-    sign: 0,
-    at_head: false,
-    test: T,
-    put: T,
-};
-
 const IS_TO_TAIL_F: Command = Command {
     sign: 0,
     at_head: true,
@@ -44,20 +36,6 @@ const IS_TO_HEAD_U: Command = Command {
     at_head: false,
     test: U,
     put: U,
-};
-
-const NOT_TO_HEAD_T: Command = Command {
-    sign: 1,
-    at_head: false,
-    test: T,
-    put: F,
-};
-
-const NOT_TO_TAIL_T: Command = Command {
-    sign: 1,
-    at_head: true,
-    test: T,
-    put: F,
 };
 
 const NOT_TO_HEAD_U: Command = Command {
@@ -74,28 +52,20 @@ const NOT_TO_TAIL_U: Command = Command {
     put: F,
 };
 
-// One round of the kind scan, or of the forward scan; whether it set a mark.
-pub fn round(kind: bool, n: usize, words: &[u32], marks: &mut [u8]) -> bool
+// One round; whether it set a mark.
+pub fn round(n: usize, words: &[u32], marks: &mut [u8]) -> bool
     requires inside { ⌜ Inside n (now words) ⌝ }
     requires few { ⌜ n ≤ 1024 ⌝ }
     requires room { ⌜ n ≤ length (now marks) ⌝ }
     requires low { ⌜ Low n (now marks) ⌝ }
-    ensures { λ r. ⌜ now (marks .exit) ≡ round (commands kind) (now (words .entry)) (now (marks .entry)) ⌝ }
+    ensures { λ r. ⌜ now (marks .exit) ≡ round commands (now (words .entry)) (now (marks .entry)) ⌝ }
     ensures { λ r. ⌜ Set r (now (marks .entry)) (now (marks .exit)) ⌝ }
     ensures { λ r. ⌜ Low n (now (marks .exit)) ⌝ }
 {
-    if kind {
-        let a = run_command(IS_TO_TAIL_T, n, words, marks);
-        let b = run_command(IS_TO_HEAD_U, n, words, marks);
-        let c = run_command(IS_TO_TAIL_F, n, words, marks);
-        let d = run_command(NOT_TO_HEAD_U, n, words, marks);
-        let e = run_command(NOT_TO_TAIL_U, n, words, marks);
-        a | b | c | d | e
-    } else {
-        let a = run_command(IS_TO_HEAD_T, n, words, marks);
-        let b = run_command(IS_TO_TAIL_F, n, words, marks);
-        let c = run_command(NOT_TO_HEAD_T, n, words, marks);
-        let d = run_command(NOT_TO_TAIL_T, n, words, marks);
-        a | b | c | d
-    }
+    let a = run_command(IS_TO_TAIL_T, n, words, marks);
+    let b = run_command(IS_TO_HEAD_U, n, words, marks);
+    let c = run_command(IS_TO_TAIL_F, n, words, marks);
+    let d = run_command(NOT_TO_HEAD_U, n, words, marks);
+    let e = run_command(NOT_TO_TAIL_U, n, words, marks);
+    a | b | c | d | e
 }

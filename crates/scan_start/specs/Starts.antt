@@ -1,13 +1,8 @@
--- The marks at the start of a scan, marks cleared, and marks that hold T, F and U alone.
+-- Marks cleared, and marks that hold T, F and U alone.
 use Prim.Native.Nat.{ℕ, _<_}
-use mathlib.Core.Bool.{Bool, cond}
 use mathlib.Core.List.{List, _++_}
 use lib.ListN.{getD, drop}
-use Rattle.theory.specs.Marks.{blank, forwardStart, kindStart}
-
--- The marks at the start: of the kind scan, or of the forward scan.
-abbrev pub start : Bool → ℕ → ℕ → List ℕ
-start kind n x = cond kind (kindStart n x) (forwardStart n x)
+use Rattle.theory.specs.Marks.{blank}
 
 -- The marks of n nodes cleared, past them the bytes as they were.
 abbrev pub cleared : ℕ → List ℕ → List ℕ

@@ -3,7 +3,8 @@ ghost use mathlib.Core.Path.{_≡_};
 ghost use mathlib.Core.List.{_++_};
 ghost use Prim.Native.Nat.{_<_, _≤_};
 ghost use lib.ListN.{length, drop};
-ghost use Rattle.scan_start.specs.Starts.{start, cleared};
+ghost use Rattle.theory.specs.Marks.{scanStart};
+ghost use Rattle.scan_start.specs.Starts.{cleared};
 
 // No marks on the nodes below `n`.
 pub fn clear(n: usize, marks: &mut [u8])
@@ -17,15 +18,11 @@ pub fn clear(n: usize, marks: &mut [u8])
     }
 }
 
-// The marks at the start `x`: T and U of the kind scan, or T of the forward scan, and no other.
-pub fn put_start(kind: bool, n: usize, x: usize, marks: &mut [u8])
+// The marks at the start: T and U on `x`, and no other.
+pub fn put_start(n: usize, x: usize, marks: &mut [u8])
     requires { ⌜ (x < n) × (n ≤ length (now marks)) ⌝ }
-    ensures { λ _. ⌜ now (marks .exit) ≡ start kind n x ++ drop n (now (marks .entry)) ⌝ }
+    ensures { λ _. ⌜ now (marks .exit) ≡ scanStart n x ++ drop n (now (marks .entry)) ⌝ }
 {
     clear(n, marks);
-    if kind {
-        marks[x] = 5;
-    } else {
-        marks[x] = 1;
-    }
+    marks[x] = 5;
 }

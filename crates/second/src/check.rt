@@ -79,15 +79,6 @@ pub fn node_check(o: u32, k: u32, words: &[u32], x: u32) -> Reply {
     net
 }
 
-// Numbers 1 to 3, and number 4 for a call from the kind y.
-pub fn kind_check(o: u32, k: u32, words: &[u32], y: u32) -> Reply {
-    let net = net_check(o, k, words);
-    if net.number == 0 && !is_kind(o, k, y) {
-        return refused(4);
-    }
-    net
-}
-
 // Numbers 1 to 4 for a call about the statement (x, y, sign).
 pub fn statement_check(o: u32, k: u32, words: &[u32], x: u32, y: u32, sign: u32) -> Reply {
     let start = node_check(o, k, words, x);

@@ -5,14 +5,13 @@ mod reply; // reply.rt: number and values of an answer
 mod places; // places.rt: reading and writing at any place of a lent slice
 mod check; // check.rt: numbers 1 to 4 of the number table
 mod closure; // closure.rt: the table of supported statements
-mod rounds; // rounds.rt: the rounds of both scans
+mod rounds; // rounds.rt: the rounds of a scan
 mod search; // search.rt: the shortest reason
 mod path; // path.rt: whether a list is a path
 mod file; // file.rt: the net file
 mod text; // text.rt: the lines of `ask`
 
 use check::cause_of;
-use check::kind_check;
 use check::net_check;
 use check::node_check;
 use check::node_count;
@@ -37,23 +36,16 @@ use places::wide;
 pub use reply::Reply;
 use reply::given;
 use reply::refused;
-use rounds::forward_marks;
-use rounds::kind_marks;
+use rounds::scan_marks;
+use rounds::whole_budget;
 use search::fill_distances;
 use search::write_reason;
 use text::file_line;
 use text::net_line;
 use text::question_lines;
 
-// The forward scan from the node `start`.
-pub fn forward_scan(
-    o: u32,
-    k: u32,
-    words: &[u32],
-    start: u32,
-    budget: u32,
-    marks: &mut [u8],
-) -> Reply {
+// The scan from the node `start`.
+pub fn scan(o: u32, k: u32, words: &[u32], start: u32, budget: u32, marks: &mut [u8]) -> Reply {
     let checked = node_check(o, k, words, start);
     if checked.number != 0 {
         return checked;
@@ -62,30 +54,10 @@ pub fn forward_scan(
     if marks.len() < n {
         return refused(5);
     }
-    forward_marks(n, words, node(start), budget, marks)
+    scan_marks(n, words, node(start), budget, marks)
 }
 
-// The kind scan from the kind `start`.
-pub fn kind_scan(
-    o: u32,
-    k: u32,
-    words: &[u32],
-    start: u32,
-    budget: u32,
-    marks: &mut [u8],
-) -> Reply {
-    let checked = kind_check(o, k, words, start);
-    if checked.number != 0 {
-        return checked;
-    }
-    let n = node_count(o, k);
-    if marks.len() < n {
-        return refused(5);
-    }
-    kind_marks(n, words, node(start), budget, marks)
-}
-
-// The question (x, y): the word is read off the table, the marks and the count are the forward scan's.
+// The question (x, y): the word is read off the table, the marks and the count are those of the scan from x.
 pub fn question(o: u32, k: u32, words: &[u32], x: u32, y: u32, marks: &mut [u8]) -> Reply {
     let checked = statement_check(o, k, words, x, y, 0);
     if checked.number != 0 {
@@ -97,8 +69,8 @@ pub fn question(o: u32, k: u32, words: &[u32], x: u32, y: u32, marks: &mut [u8])
     }
     let mut support = empty_table();
     close(node(o), n, words, &mut support);
-    let scan = forward_marks(n, words, node(x), narrow(2 * n), marks);
-    given(scan.number, answer(&support, node(x), node(y)), scan.first)
+    let done = scan_marks(n, words, node(x), whole_budget(o, k), marks);
+    given(done.number, answer(&support, node(x), node(y)), done.first)
 }
 
 // All supported words, ascending.

@@ -1,8 +1,10 @@
 // The rounds of the marker machine, each marker in an array of its own: 1 where the node has the mark, 0 elsewhere.
 use crate::check::head_of;
+use crate::check::node_count;
 use crate::check::tail_of;
 use crate::places::add_bits;
 use crate::places::byte_at;
+use crate::places::narrow;
 use crate::places::node;
 use crate::places::put_byte;
 use crate::reply::Reply;
@@ -38,20 +40,8 @@ fn follow(word: u32, sign: u32, down: bool, old: &[u8; 1024], marker: &mut [u8; 
     add_bits(marker, tail, byte_at(old, head))
 }
 
-// The four commands of the forward scan; true when one of them set a mark.
-fn forward_round(words: &[u32], t: &mut [u8; 1024], f: &mut [u8; 1024]) -> bool {
-    let old_t = *t;
-    let first = command(words, 0, true, &old_t, t);
-    let old_f = *f;
-    let second = command(words, 0, false, &old_f, f);
-    let new_t = *t;
-    let third = command(words, 1, true, &new_t, f);
-    let fourth = command(words, 1, false, &new_t, f);
-    first | second | third | fourth
-}
-
-// The five commands of the kind scan; true when one of them set a mark.
-fn kind_round(words: &[u32], t: &mut [u8; 1024], f: &mut [u8; 1024], u: &mut [u8; 1024]) -> bool {
+// The five commands of a round; true when one of them set a mark.
+fn round(words: &[u32], t: &mut [u8; 1024], f: &mut [u8; 1024], u: &mut [u8; 1024]) -> bool {
     let old_t = *t;
     let first = command(words, 0, false, &old_t, t);
     let old_u = *u;
@@ -64,20 +54,8 @@ fn kind_round(words: &[u32], t: &mut [u8; 1024], f: &mut [u8; 1024], u: &mut [u8
     first | second | third | fourth | fifth
 }
 
-// Rounds of the forward scan until one sets nothing, at most `budget` of them.
-fn forward_rounds(words: &[u32], budget: u32, t: &mut [u8; 1024], f: &mut [u8; 1024]) -> Reply {
-    let mut count: u32 = 0;
-    while count < budget {
-        count += 1;
-        if !forward_round(words, t, f) {
-            return given(0, count, 0);
-        }
-    }
-    given(6, budget, 0)
-}
-
-// Rounds of the kind scan until one sets nothing, at most `budget` of them.
-fn kind_rounds(
+// Rounds until one sets nothing, at most `budget` of them.
+fn run_rounds(
     words: &[u32],
     budget: u32,
     t: &mut [u8; 1024],
@@ -87,7 +65,7 @@ fn kind_rounds(
     let mut count: u32 = 0;
     while count < budget {
         count += 1;
-        if !kind_round(words, t, f, u) {
+        if !round(words, t, f, u) {
             return given(0, count, 0);
         }
     }
@@ -126,29 +104,29 @@ fn only_at(v: usize) -> [u8; 1024] {
     marker
 }
 
-// The rounds of the forward scan of a legal net from the node x, its marks left aside.
-pub fn forward_count(words: &[u32], x: usize, budget: u32) -> Reply {
-    let mut t = only_at(x);
-    let mut f = nowhere();
-    forward_rounds(words, budget, &mut t, &mut f)
+// 3N − 1, the rounds within which every scan of a legal net ends.
+pub fn whole_budget(o: u32, k: u32) -> u32 {
+    let n = node_count(o, k);
+    if n == 0 {
+        return 0;
+    }
+    narrow(3 * n - 1)
 }
 
-// The forward scan of a legal net from the node x.
-pub fn forward_marks(n: usize, words: &[u32], x: usize, budget: u32, marks: &mut [u8]) -> Reply {
+// The rounds of the scan of a legal net from the node x, its marks left aside.
+pub fn scan_count(words: &[u32], x: usize, budget: u32) -> Reply {
     let mut t = only_at(x);
     let mut f = nowhere();
-    let u = nowhere();
-    let reply = forward_rounds(words, budget, &mut t, &mut f);
-    pack(n, &t, &f, &u, marks);
-    reply
+    let mut u = only_at(x);
+    run_rounds(words, budget, &mut t, &mut f, &mut u)
 }
 
-// The kind scan of a legal net from the kind y.
-pub fn kind_marks(n: usize, words: &[u32], y: usize, budget: u32, marks: &mut [u8]) -> Reply {
-    let mut t = only_at(y);
+// The scan of a legal net from the node x.
+pub fn scan_marks(n: usize, words: &[u32], x: usize, budget: u32, marks: &mut [u8]) -> Reply {
+    let mut t = only_at(x);
     let mut f = nowhere();
-    let mut u = only_at(y);
-    let reply = kind_rounds(words, budget, &mut t, &mut f, &mut u);
+    let mut u = only_at(x);
+    let reply = run_rounds(words, budget, &mut t, &mut f, &mut u);
     pack(n, &t, &f, &u, marks);
     reply
 }

@@ -1,15 +1,14 @@
 // The lines of `ask`, as bytes: what has no room is left out.
 use crate::check::is_kind;
 use crate::check::is_node;
-use crate::check::node_count;
 use crate::closure::answer;
 use crate::file::number_at;
 use crate::file::question_count;
 use crate::file::word_count;
-use crate::places::narrow;
 use crate::places::node;
 use crate::reply::Reply;
-use crate::rounds::forward_count;
+use crate::rounds::scan_count;
+use crate::rounds::whole_budget;
 
 // Appends a byte at a place; the place after it.
 fn put(text: &mut [u8], at: usize, byte: u8) -> usize {
@@ -101,9 +100,9 @@ fn put_answered(text: &mut [u8], at: usize, word: u32, count: u32) -> usize {
     put_field(text, end, count, 10)
 }
 
-// The forward scan's count for a question about x.
+// The scan's count for a question about x.
 fn count_from(o: u32, k: u32, words: &[u32], x: u32) -> u32 {
-    let scan = forward_count(words, node(x), narrow(2 * node_count(o, k)));
+    let scan = scan_count(words, node(x), whole_budget(o, k));
     scan.first
 }
 

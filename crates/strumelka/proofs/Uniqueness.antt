@@ -4,7 +4,7 @@ use mathlib.Core.Path.{_≡_, sym, _∙_}
 use mathlib.Core.List.{List}
 use Rattle.net.specs.Table.{Reply, checkNet, checkedReply}
 use Rattle.check_word.specs.Table.{checkWord, wordReply}
-use Rattle.scan.specs.Table.{forwardScanned, kindScanned, scanReply}
+use Rattle.scan.specs.Table.{scanned, scanReply}
 use Rattle.question.specs.Table.{questioned, askedReply}
 use Rattle.clash.specs.Table.{clashedBy, clashedReply}
 use Rattle.completion.specs.Table.{completedBy, completedReply}
@@ -38,17 +38,11 @@ module _ (o k : ℕ) (ws : List ℕ) (r q : Reply) where
   reason-check-unique x y sign list = gives-one r q
 
   module _ (marks m l : List ℕ) where
-    -- `strumelka_forward_scan`.
-    pub forward-scan-unique : (x budget : ℕ)
-        → (r ≡ scanReply (forwardScanned o k ws x budget marks .answer)) × (m ≡ forwardScanned o k ws x budget marks .marks)
-        → (q ≡ scanReply (forwardScanned o k ws x budget marks .answer)) × (l ≡ forwardScanned o k ws x budget marks .marks) → (r ≡ q) × (m ≡ l)
-    forward-scan-unique x budget = leaves-one r q m l
-
-    -- `strumelka_kind_scan`.
-    pub kind-scan-unique : (y budget : ℕ)
-        → (r ≡ scanReply (kindScanned o k ws y budget marks .answer)) × (m ≡ kindScanned o k ws y budget marks .marks)
-        → (q ≡ scanReply (kindScanned o k ws y budget marks .answer)) × (l ≡ kindScanned o k ws y budget marks .marks) → (r ≡ q) × (m ≡ l)
-    kind-scan-unique y budget = leaves-one r q m l
+    -- `strumelka_scan`.
+    pub scan-unique : (x budget : ℕ)
+        → (r ≡ scanReply (scanned o k ws x budget marks .answer)) × (m ≡ scanned o k ws x budget marks .marks)
+        → (q ≡ scanReply (scanned o k ws x budget marks .answer)) × (l ≡ scanned o k ws x budget marks .marks) → (r ≡ q) × (m ≡ l)
+    scan-unique x budget = leaves-one r q m l
 
     -- `strumelka_question`.
     pub question-unique : (x y : ℕ)

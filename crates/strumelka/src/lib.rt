@@ -2,7 +2,7 @@
 ghost use mathlib.Core.Path.{_≡_};
 ghost use Rattle.net.specs.Table.{checkNet, checkedReply};
 ghost use Rattle.check_word.specs.Table.{checkWord, wordReply};
-ghost use Rattle.scan.specs.Table.{forwardScanned, kindScanned, scanReply};
+ghost use Rattle.scan.specs.Table.{scanned, scanReply};
 ghost use Rattle.question.specs.Table.{questioned, askedReply};
 ghost use Rattle.clash.specs.Table.{clashedBy, clashedReply};
 ghost use Rattle.completion.specs.Table.{completedBy, completedReply};
@@ -24,8 +24,7 @@ use net::check_net;
 use question::ask_question;
 use reason::find_reason;
 use reason_check::check_reason;
-use scan::forward_scan;
-use scan::kind_scan;
+use scan::scan;
 
 // The test of a single word.
 #[no_mangle]
@@ -43,9 +42,9 @@ pub extern "C" fn strumelka_check_net(o: u32, k: u32, words: &[u32]) -> Reply
     checked_given(check_net(o, k, words))
 }
 
-// The forward scan from node `start`, within `budget` rounds.
+// The scan from node `start`, object or kind, within `budget` rounds.
 #[no_mangle]
-pub extern "C" fn strumelka_forward_scan(
+pub extern "C" fn strumelka_scan(
     o: u32,
     k: u32,
     words: &[u32],
@@ -53,26 +52,10 @@ pub extern "C" fn strumelka_forward_scan(
     budget: u32,
     marks: &mut [u8],
 ) -> Reply
-    ensures { λ r. ⌜ (r ≡ scanReply (forwardScanned o k (now (words .entry)) start budget (now (marks .entry)) .answer))
-        × (now (marks .exit) ≡ forwardScanned o k (now (words .entry)) start budget (now (marks .entry)) .marks) ⌝ }
+    ensures { λ r. ⌜ (r ≡ scanReply (scanned o k (now (words .entry)) start budget (now (marks .entry)) .answer))
+        × (now (marks .exit) ≡ scanned o k (now (words .entry)) start budget (now (marks .entry)) .marks) ⌝ }
 {
-    scanned_given(forward_scan(o, k, words, start, budget, marks))
-}
-
-// The kind scan from kind `start`, within `budget` rounds.
-#[no_mangle]
-pub extern "C" fn strumelka_kind_scan(
-    o: u32,
-    k: u32,
-    words: &[u32],
-    start: u32,
-    budget: u32,
-    marks: &mut [u8],
-) -> Reply
-    ensures { λ r. ⌜ (r ≡ scanReply (kindScanned o k (now (words .entry)) start budget (now (marks .entry)) .answer))
-        × (now (marks .exit) ≡ kindScanned o k (now (words .entry)) start budget (now (marks .entry)) .marks) ⌝ }
-{
-    scanned_given(kind_scan(o, k, words, start, budget, marks))
+    scanned_given(scan(o, k, words, start, budget, marks))
 }
 
 // The question whether `x` is `y`.

@@ -10,5 +10,6 @@ pub mod Budgets
 pub mod Bounds
 pub mod Order
 pub mod Sides
+pub mod Forward
 pub mod Loss
 pub mod Bytes

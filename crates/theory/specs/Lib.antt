@@ -6,6 +6,7 @@ pub mod Inside
 pub mod Marks
 pub mod Growth
 pub mod Scans
+pub mod Forward
 pub mod Downscan
 pub mod Completion
 pub mod Reasons

@@ -23,9 +23,9 @@ U = 2
 abbrev pub has : ℕ → ℕ → Bool
 has j b = eqb (b / 2 ^ j % 2) 1
 
--- What the byte at a kind says after a full scan: yes is T, no is F.
+-- What the byte of a kind y says after the scan from x: U is yes, x → y; F is no, x ↛ y.
 abbrev pub saysYes : ℕ → Bool
-saysYes b = has T b
+saysYes b = has U b
 
 abbrev pub saysNo : ℕ → Bool
 saysNo b = has F b
@@ -34,10 +34,15 @@ saysNo b = has F b
 abbrev pub At : List ℕ → ℕ → ℕ → Type 0
 At m j v = has j (getD m v 0) ≡ true
 
--- The marker for a sign: T for →, F for ↛.
+-- The marker for a sign at a kind y after the scan from x: U for x → y, F for x ↛ y.
 abbrev pub markerOf : Sign → ℕ
-markerOf is = T
+markerOf is = U
 markerOf isnt = F
+
+-- Against the arrows, at a node z after the scan from a kind y: T for z → y, F for z ↛ y.
+abbrev pub markerTo : Sign → ℕ
+markerTo is = T
+markerTo isnt = F
 
 -- A byte with marker j besides.
 abbrev pub with : ℕ → ℕ → ℕ
@@ -83,22 +88,14 @@ toHead s p q = record { sign = s; «at_head» = false; test = p; put = q }
 abbrev pub toTail : ℕ → ℕ → ℕ → Command
 toTail s p q = record { sign = s; «at_head» = true; test = p; put = q }
 
--- The four commands of a round of the forward scan.
-abbrev pub forward : List Command
-forward = toHead 0 T T ∷ toTail 0 F F ∷ toHead 1 T F ∷ toTail 1 T F ∷ []
-
--- The five commands of a round of the kind scan.
-abbrev pub kindly : List Command
-kindly = toTail 0 T T ∷ toHead 0 U U ∷ toTail 0 F F ∷ toHead 1 U F ∷ toTail 1 U F ∷ []
+-- The five commands of a round.
+abbrev pub commands : List Command
+commands = toTail 0 T T ∷ toHead 0 U U ∷ toTail 0 F F ∷ toHead 1 U F ∷ toTail 1 U F ∷ []
 
 -- No marks on n nodes.
 abbrev pub blank : ℕ → List ℕ
 blank n = replicate n 0
 
--- The forward scan starts with T on x.
-abbrev pub forwardStart : ℕ → ℕ → List ℕ
-forwardStart n x = mark T x (blank n)
-
--- The kind scan starts with T and U on y.
-abbrev pub kindStart : ℕ → ℕ → List ℕ
-kindStart n y = mark U y (mark T y (blank n))
+-- A scan starts with T and U on x, be it an object or a kind.
+abbrev pub scanStart : ℕ → ℕ → List ℕ
+scanStart n x = mark U x (mark T x (blank n))

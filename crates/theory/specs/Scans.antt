@@ -1,10 +1,10 @@
 -- Scans: rounds until one sets nothing, within a budget of rounds.
-use Prim.Native.Nat.{ℕ, zero, suc, _*_, _≤_, _<_}
+use Prim.Native.Nat.{ℕ, zero, suc, _*_, _-_, _≤_, _<_}
 use mathlib.Core.Path.{_≡_}
 use mathlib.Core.Bool.{Bool, true, false, _&&_}
 use mathlib.Core.List.{List, [], _∷_}
 use lib.Dec.{eqb}
-use Rattle.theory.specs.Marks.{round, forward, kindly, forwardStart, kindStart}
+use Rattle.theory.specs.Marks.{round, commands, scanStart}
 use Rattle.theory.specs.declared.Command.{Command}
 
 -- The marks after n rounds.
@@ -34,16 +34,17 @@ rounds cs ws count (suc budget) m =
       | false ↦ rounds cs ws (suc count) budget (round cs ws m)
     ]
 
--- The forward scan from x and the kind scan from y over n nodes.
-abbrev pub forwardScan : ℕ → List ℕ → ℕ → ℕ → Scan
-forwardScan n ws x budget = rounds forward ws 0 budget (forwardStart n x)
+-- The scan from x over n nodes.
+abbrev pub scan : ℕ → List ℕ → ℕ → ℕ → Scan
+scan n ws x budget = rounds commands ws 0 budget (scanStart n x)
 
-abbrev pub kindScan : ℕ → List ℕ → ℕ → ℕ → Scan
-kindScan n ws y budget = rounds kindly ws 0 budget (kindStart n y)
+-- The bound on the count, 3N − 1: a budget that is never spent.
+abbrev pub fullBudget : ℕ → ℕ
+fullBudget n = 3 * n - 1
 
--- The full scan from x, which answers what is asked about x: the forward scan with a budget of 2N rounds, which is never spent.
+-- The full scan from x, which answers what is asked about x.
 abbrev pub fullScan : ℕ → List ℕ → ℕ → Scan
-fullScan n ws x = forwardScan n ws x (2 * n)
+fullScan n ws x = scan n ws x (fullBudget n)
 
 -- c is the count: round c is the first that sets nothing, itself included in the count.
 pub record Count (cs : List Command) (ws m : List ℕ) (c : ℕ) : Type 0 where

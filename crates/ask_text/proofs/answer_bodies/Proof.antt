@@ -1,5 +1,4 @@
 -- `answer_bodies`: the words are read, and the net answered with them.
-use native.Mathlib.Omega.{arith}
 use Rattle.text_field.proofs.Writing.{wrote-as}
 use Rattle.ask_text.proofs.Whole.{first-words, words-read, bodies-joined}
 use borrow.Author.Needs.{needs}

@@ -7,26 +7,11 @@ use Rattle.library_reply.proofs.Fitting.{carry-fits}
 use Rattle.library_answer.proofs.clashed_given.Statement.{statement}
 use Rattle.library_answer.proofs.clashed_given.Tie as tie
 
-enum-known-clashed : tie.Need-enum-known-clashed
-enum-known-clashed c = search needs
-
 cast-reply-of : tie.Need-cast-reply-of
 cast-reply-of c = omega (arith, carry-fits clashedReply (c .before .clashed .given .1) (c .before .before .before .pre) .first)
 
 cast-reply-of-2 : tie.Need-cast-reply-of-2
 cast-reply-of-2 c = omega (arith, carry-fits clashedReply (c .before .clashed .given .1) (c .before .before .before .pre) .second)
-
-reply-of-requires : tie.Need-reply-of-requires
-reply-of-requires c κs = search needs
-
-enum-told : tie.Need-enum-told
-enum-told c = search needs
-
-reply-of-requires-2 : tie.Need-reply-of-requires-2
-reply-of-requires-2 c κs = search needs
-
-enum-known-clashed-2 : tie.Need-enum-known-clashed-2
-enum-known-clashed-2 c = search needs
 
 returns : tie.Need-returns
 returns c = carry-reply clashedReply (c .before .before .clashed .given .1) (c .reply-of .ensures)
@@ -41,13 +26,13 @@ pub clashed-given-spec : {M : Type 1} → statement M
 clashed-given-spec =
     tie.close
     (tie.spec
-    enum-known-clashed
+    (search needs)
     cast-reply-of
     cast-reply-of-2
-    reply-of-requires
-    enum-told
-    reply-of-requires-2
-    enum-known-clashed-2
+    (search needs)
+    (search needs)
+    (search needs)
+    (search needs)
     (search needs)
     returns
     returns-2

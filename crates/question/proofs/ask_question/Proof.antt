@@ -8,8 +8,8 @@ use Rattle.question.proofs.Outcomes.{checked-net}
 use Rattle.question.proofs.ask_question.Statement.{statement}
 use Rattle.question.proofs.ask_question.Tie as tie
 
-ask-net-requires : tie.Need-ask-net-requires
-ask-net-requires c κs =
+question-net-requires : tie.Need-question-net-requires
+question-net-requires c κs =
     let net = c .before .before in
     let checked = net .before .before in
     let a = checked .before .before .before .args in
@@ -30,7 +30,7 @@ returns-2 c =
     let checked = net .before .before in
     let a = checked .before .before .before .args in
     gone-on (λ r. questionOutcome (Refused r) (a .marks .now)) (a .o) (a .k) (a .words .now) (questionClauses (a .o) (a .x) (a .y) (a .marks .now))
-    (questionDone (a .words .now) (a .x) (a .y) (a .marks .now)) (sym (checked .check-net .ensures) ∙ net .net2 .given .1) (asked .ask-net .ensures)
+    (questionDone (a .words .now) (a .x) (a .y) (a .marks .now)) (sym (checked .check-net .ensures) ∙ net .net2 .given .1) (asked .question-net .ensures)
 
 pub ask-question-spec : {M : Type 1} → statement M
 ask-question-spec =
@@ -39,7 +39,7 @@ ask-question-spec =
     (search needs)
     (search needs)
     (search needs)
-    ask-net-requires
+    question-net-requires
     returns
     (search needs)
     returns-2)

@@ -43,6 +43,7 @@ full-scan-spec =
     (tie.spec
     (search needs)
     (search needs)
+    (search needs)
     scan-net-requires
     (search needs)
     (search needs)

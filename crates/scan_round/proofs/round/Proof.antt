@@ -1,21 +1,21 @@
 -- The commands one after another are the round, and each flag tells of its command.
 use native.Mathlib.Omega.{arith}
 use borrow.Author.Needs.{needs}
-use Rattle.scan_round.proofs.Turns.{kind-ran, forward-ran}
+use Rattle.scan_round.proofs.Turns.{round-ran}
 use Rattle.scan_round.proofs.round.Statement.{statement}
 use Rattle.scan_round.proofs.round.Tie as tie
 
 run-command-requires-2 : tie.Need-run-command-requires-2
 run-command-requires-2 c κs =
     let at1 = c .before .before .before .before in
-    let s = at1 .before .before .before .before in
+    let s = at1 .before .before .before in
     (omega arith, (s .pre .0, (s .pre .1 .0, omega arith)))
 
 run-command-requires-3 : tie.Need-run-command-requires-3
 run-command-requires-3 c κs =
     let at2 = c .before .before .before .before in
     let at1 = at2 .before .before .before .before in
-    let s = at1 .before .before .before .before in
+    let s = at1 .before .before .before in
     (omega arith, (s .pre .0, (s .pre .1 .0, omega arith)))
 
 run-command-requires-4 : tie.Need-run-command-requires-4
@@ -23,7 +23,7 @@ run-command-requires-4 c κs =
     let at3 = c .before .before .before .before in
     let at2 = at3 .before .before .before .before in
     let at1 = at2 .before .before .before .before in
-    let s = at1 .before .before .before .before in
+    let s = at1 .before .before .before in
     (omega arith, (s .pre .0, (s .pre .1 .0, omega arith)))
 
 run-command-requires-5 : tie.Need-run-command-requires-5
@@ -32,28 +32,7 @@ run-command-requires-5 c κs =
     let at3 = at4 .before .before .before .before in
     let at2 = at3 .before .before .before .before in
     let at1 = at2 .before .before .before .before in
-    let s = at1 .before .before .before .before in
-    (omega arith, (s .pre .0, (s .pre .1 .0, omega arith)))
-
-run-command-requires-7 : tie.Need-run-command-requires-7
-run-command-requires-7 c κs =
-    let at1 = c .before .before .before .before in
-    let s = at1 .before .before .before .before in
-    (omega arith, (s .pre .0, (s .pre .1 .0, omega arith)))
-
-run-command-requires-8 : tie.Need-run-command-requires-8
-run-command-requires-8 c κs =
-    let at2 = c .before .before .before .before in
-    let at1 = at2 .before .before .before .before in
-    let s = at1 .before .before .before .before in
-    (omega arith, (s .pre .0, (s .pre .1 .0, omega arith)))
-
-run-command-requires-9 : tie.Need-run-command-requires-9
-run-command-requires-9 c κs =
-    let at3 = c .before .before .before .before in
-    let at2 = at3 .before .before .before .before in
-    let at1 = at2 .before .before .before .before in
-    let s = at1 .before .before .before .before in
+    let s = at1 .before .before .before in
     (omega arith, (s .pre .0, (s .pre .1 .0, omega arith)))
 
 returns : tie.Need-returns
@@ -63,23 +42,10 @@ returns c =
     let at3 = at4 .before .before .before .before in
     let at2 = at3 .before .before .before .before in
     let at1 = at2 .before .before .before .before in
-    let begun = at1 .before .before in
-    let s = begun .before .before .before in
+    let s = at1 .before .before .before .before in
     let a = s .args in
-    kind-ran (a .kind) (a .n) (a .words .now) (a .marks .now) (s .pre .0) (s .pre .1 .1 .0) (s .pre .1 .1 .1) (begun .if1 .taken)
+    round-ran (a .n) (a .words .now) (a .marks .now) (s .pre .0) (s .pre .1 .1 .0) (s .pre .1 .1 .1)
     (at1 .run-command .ensures) (at2 .run-command2 .ensures) (at3 .run-command3 .ensures) (at4 .run-command4 .ensures) (at5 .run-command5 .ensures)
-
-returns-2 : tie.Need-returns-2
-returns-2 c =
-    let at4 = c .before .before in
-    let at3 = at4 .before .before .before .before in
-    let at2 = at3 .before .before .before .before in
-    let at1 = at2 .before .before .before .before in
-    let begun = at1 .before .before in
-    let s = begun .before .before .before in
-    let a = s .args in
-    forward-ran (a .kind) (a .n) (a .words .now) (a .marks .now) (s .pre .0) (s .pre .1 .1 .0) (s .pre .1 .1 .1) (begun .if1 .left)
-    (at1 .run-command6 .ensures) (at2 .run-command7 .ensures) (at3 .run-command8 .ensures) (at4 .run-command9 .ensures)
 
 pub round-spec : {M : Type 1} → statement M
 round-spec =
@@ -90,11 +56,5 @@ round-spec =
     run-command-requires-3
     run-command-requires-4
     run-command-requires-5
-    (λ c κs. search needs)
-    run-command-requires-7
-    run-command-requires-8
-    run-command-requires-9
     (λ c. search needs)
-    returns
-    (λ c. search needs)
-    returns-2)
+    returns)

@@ -10,12 +10,13 @@ use lib.ListN.{getD}
 use Rattle.theory.specs.Words.{Sign, is, isnt, word, tailOf, headOf, signOf}
 use Rattle.theory.specs.Nets.{Kind, Links, Net}
 use Rattle.theory.specs.Support.{Supported}
-use Rattle.theory.specs.Marks.{T, F, has, markerOf, At}
+use Rattle.theory.specs.Marks.{U, F, has, markerOf, At}
+use Rattle.theory.specs.Scans.{fullBudget}
 use Rattle.theory.specs.Completion.{Ascending, Lists, fullMarks, cell, row, rows, complete}
 use Rattle.theory.proofs.Legal.{legal-links}
 use Rattle.theory.proofs.support.Joining.{ends}
-use Rattle.theory.proofs.machine.Bounds.{forward-done}
-use Rattle.theory.proofs.machine.Sides.{forward-exact}
+use Rattle.theory.proofs.machine.Bounds.{full-done}
+use Rattle.theory.proofs.machine.Sides.{scan-exact}
 use Rattle.theory.proofs.completion.Ascending.{tail-word, head-word, sign-word, word-of-parts, ascending-from, ascending-append, ascending-same}
 
 -- The relation has one outcome.
@@ -39,11 +40,11 @@ kept-has : (v : ℕ) (p : Bool) → p ≡ true → List·Memᴰ v (cond p (v ∷
 kept-has v p e = rw e (List·Memᴰ·head refl)
 
 cell-cases : (x y b w : ℕ) → List·Memᴰ w (cell x y b) → InCell x y b w
-cell-cases x y b w m = ⊎-elim (kept-cases x y b w is (has T b) refl) (kept-cases x y b w isnt (has F b) refl) (List·Memᴰ·append-cases (cond (has T b) (word x y is ∷ []) []) m)
+cell-cases x y b w m = ⊎-elim (kept-cases x y b w is (has U b) refl) (kept-cases x y b w isnt (has F b) refl) (List·Memᴰ·append-cases (cond (has U b) (word x y is ∷ []) []) m)
 
 cell-has : (x y b : ℕ) (s : Sign) → has (markerOf s) b ≡ true → List·Memᴰ (word x y s) (cell x y b)
-cell-has x y b is e = Memᴰ·append-left (cond (has F b) (word x y isnt ∷ []) []) (kept-has (word x y is) (has T b) e)
-cell-has x y b isnt e = Memᴰ·append-right (cond (has T b) (word x y is ∷ []) []) (kept-has (word x y isnt) (has F b) e)
+cell-has x y b is e = Memᴰ·append-left (cond (has F b) (word x y isnt ∷ []) []) (kept-has (word x y is) (has U b) e)
+cell-has x y b isnt e = Memᴰ·append-right (cond (has U b) (word x y is ∷ []) []) (kept-has (word x y isnt) (has F b) e)
 
 cell-ascending : (x y : ℕ) (p q : Bool) → Ascending (word x y is) (cond p (word x y is ∷ []) [] ++ cond q (word x y isnt ∷ []) [])
 cell-ascending x y true true = (omega arith, (omega arith, tt))
@@ -86,7 +87,7 @@ unfolding row
 row-ascending x m y zero = tt
 row-ascending x m y (suc j) =
     ascending-append (word x y is) (word x (suc y) is) (cell x y (getD m y 0)) (row x m (suc y) j)
-    (cell-ascending x y (has T (getD m y 0)) (has F (getD m y 0)))
+    (cell-ascending x y (has U (getD m y 0)) (has F (getD m y 0)))
     (λ w h. let c = cell-cases x y (getD m y 0) w h in rw (c .same) (word-next x y (c .sign)))
     (row-ascending x m (suc y) j) (omega arith)
 
@@ -98,7 +99,7 @@ word-below x y isnt h = omega arith
 module _ (o k : ℕ) (ws : List ℕ) (n : Net o k ws) where
   -- The full marks of x say exactly what is supported.
   pub full-exact : (x y : ℕ) (s : Sign) → x < o + k → Kind o k y → At (fullMarks o k ws x) (markerOf s) y ↔ Supported o k (Links ws) x y s
-  full-exact x y s h hy = forward-exact o k ws (n .legal) x h (2 * (o + k)) (forward-done o k ws (n .legal) x h (2 * (o + k)) (omega arith)) y hy s
+  full-exact x y s h hy = scan-exact o k ws (n .legal) x h (fullBudget (o + k)) (full-done o k ws (n .legal) x h (fullBudget (o + k)) (omega arith)) y hy s
 
   small : o + k ≤ 1024
   small = n .few

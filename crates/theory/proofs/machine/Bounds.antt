@@ -1,4 +1,4 @@
--- Each round but the last sets a mark, so the count is at most 2N in the forward scan and 3N − 1 in the kind scan.
+-- Each round but the last sets a mark, so the count is at most 3N − 1.
 use Prim.Native.Nat.{ℕ, zero, suc, _+_, _*_, _-_, _^_, _≤_, _<_}
 use mathlib.Core.Path.{_≡_, refl, sym, _∙_, ap}
 use mathlib.Core.Bool.{Bool, true, false}
@@ -8,8 +8,8 @@ use lib.ListN.{length, getD, drop, drop-of-length-le, length-replicate}
 use borrow.Author.Tests.{eq-eqb}
 use Rattle.theory_laws.proofs.Booleans.{contradiction, not-so}
 use Rattle.theory.specs.Nets.{LegalWords}
-use Rattle.theory.specs.Marks.{T, U, has, mark, blank, round, forward, kindly, forwardStart, kindStart}
-use Rattle.theory.specs.Scans.{same, rounds, Count, forwardScan, kindScan}
+use Rattle.theory.specs.Marks.{T, U, has, mark, blank, round, commands, scanStart}
+use Rattle.theory.specs.Scans.{same, rounds, Count, scan, fullBudget}
 use Rattle.theory.specs.Inside.{Inside}
 use Rattle.theory.specs.Growth.{size, Set, kept, more}
 use Rattle.theory.specs.declared.Command.{Command}
@@ -18,7 +18,7 @@ use Rattle.theory.proofs.machine.Growth.{ScanStep, Puts, mark-more, mar
 use Rattle.theory.proofs.machine.Commands.{mark-at}
 use Rattle.theory.proofs.machine.Soundness.{after-step}
 use Rattle.theory.proofs.machine.Rounds.{same-refl, rounds-none, rounds-last, rounds-more}
-use Rattle.theory.proofs.machine.Starts.{blank-none, blank-byte, forward-long, kind-long, forward-puts, kindly-puts, forward-puts-8}
+use Rattle.theory.proofs.machine.Starts.{blank-none, blank-byte, T-long, start-long, commands-put, commands-put-8}
 use Rattle.theory.proofs.machine.Budgets.{last-round, spent-marks, ends-within}
 
 grew-more : {f : Bool} {m m′ : List ℕ} → Set f m m′ → same m m′ ≡ false → size m < size m′
@@ -72,8 +72,8 @@ module _ (n h : ℕ) (ws : List ℕ) (e : Inside n ws) (cs : List Command) (p : 
         (suc (t .at), t .counted, omega (arith, count-bound (suc b), t .count))
 
 -- A scan leaves as many marks as it found.
-pub scan-long : (n : ℕ) (ws : List ℕ) → Inside n ws → (cs : List Command) → Puts 8 cs → (b : ℕ) (m : List ℕ) → n ≤ length m → length (rounds cs ws 0 b m .marks) ≡ length m
-scan-long n ws e cs p b m r = at (rounds cs ws 0 b m .done) refl
+pub rounds-long : (n : ℕ) (ws : List ℕ) → Inside n ws → (cs : List Command) → Puts 8 cs → (b : ℕ) (m : List ℕ) → n ≤ length m → length (rounds cs ws 0 b m .marks) ≡ length m
+rounds-long n ws e cs p b m r = at (rounds cs ws 0 b m .done) refl
   where
     at : (q : Bool) → rounds cs ws 0 b m .done ≡ q → length (rounds cs ws 0 b m .marks) ≡ length m
     at true d = let t = last-round cs ws m b d in ap length (t .marks) ∙ after-step n ws e cs p 8 p (t .at) m r .long
@@ -90,55 +90,47 @@ module _ (n x : ℕ) (hx : x < n) where
   start-step : (h j : ℕ) → j < h → (m : List ℕ) → length m ≡ n → ScanStep n h m (mark j x m)
   start-step h j l m e = mark-step n h j l m x (has j (getD m x 0)) refl hx (omega (arith, e))
 
-  pub forward-below : (h : ℕ) → 0 < h → BytesBelow n h (forwardStart n x)
-  forward-below h l = start-step h T l (blank n) (length-replicate {A = ℕ} n 0) .low (blank-below n h)
+  -- The marks with T on x alone, as a scan's start is built.
+  abbrev withT : List ℕ
+  withT = mark T x (blank n)
 
-  pub kind-below : (h : ℕ) → 2 < h → BytesBelow n h (kindStart n x)
-  kind-below h l = start-step h U l (forwardStart n x) (forward-long n x hx) .low (forward-below h (omega arith))
+  pub T-below : (h : ℕ) → 0 < h → BytesBelow n h withT
+  T-below h l = start-step h T l (blank n) (length-replicate {A = ℕ} n 0) .low (blank-below n h)
 
-  forward-size : 1 ≤ size (forwardStart n x)
-  forward-size = at (mark-more T x (blank n) (omega (arith, length-replicate {A = ℕ} n 0)) (not-so (has T (getD (blank n) x 0)) (blank-none n T x)))
+  pub start-below : (h : ℕ) → 2 < h → BytesBelow n h (scanStart n x)
+  start-below h l = start-step h U l withT (T-long n x hx) .low (T-below h (omega arith))
+
+  pub T-size : 1 ≤ size withT
+  T-size = at (mark-more T x (blank n) (omega (arith, length-replicate {A = ℕ} n 0)) (not-so (has T (getD (blank n) x 0)) (blank-none n T x)))
     where
-      at : Set true (blank n) (forwardStart n x) → 1 ≤ size (forwardStart n x)
+      at : Set true (blank n) withT → 1 ≤ size withT
       at (more l) = omega arith
 
-  no-U : has U (getD (forwardStart n x) x 0) ≡ false
+  no-U : has U (getD withT x 0) ≡ false
   no-U =
       mark-at U T x x (blank n) (omega (arith, length-replicate {A = ℕ} n 0))
       ∙ rw (not-so (has U (getD (blank n) x 0)) (blank-none n U x), eq-eqb x x refl)
 
-  kind-size : 2 ≤ size (kindStart n x)
-  kind-size = at (mark-more U x (forwardStart n x) (omega (arith, forward-long n x hx)) no-U)
+  start-size : 2 ≤ size (scanStart n x)
+  start-size = at (mark-more U x withT (omega (arith, T-long n x hx)) no-U)
     where
-      at : Set true (forwardStart n x) (kindStart n x) → 2 ≤ size (kindStart n x)
-      at (more l) = omega (arith, forward-size)
+      at : Set true withT (scanStart n x) → 2 ≤ size (scanStart n x)
+      at (more l) = omega (arith, T-size)
 
 module _ (o k : ℕ) (ws : List ℕ) (legal : LegalWords o k ws) (x : ℕ) (hx : x < o + k) where
-  -- The count of the forward scan is at most 2N.
-  pub forward-counted : (c : ℕ) × Count forward ws (forwardStart (o + k) x) c × (c ≤ 2 * (o + k))
-  forward-counted =
-      bounded (o + k) 2 ws (legal-inside o k ws legal) forward forward-puts (forwardStart (o + k) x) (forward-long (o + k) x hx) (forward-below (o + k) x hx 2 (omega arith))
-      (2 * (o + k)) (omega (arith, forward-size (o + k) x hx))
-
-  -- So a budget of 2N is never spent.
-  pub forward-done : (budget : ℕ) → 2 * (o + k) ≤ budget → forwardScan (o + k) ws x budget .done ≡ true
-  forward-done budget h =
-      let (c, d, l) = forward-counted in
-      ends-within forward ws (forwardStart (o + k) x) c budget d (omega arith)
-
-  -- The count of the kind scan is at most 3N − 1.
-  pub kind-counted : (c : ℕ) × Count kindly ws (kindStart (o + k) x) c × (c ≤ 3 * (o + k) - 1)
-  kind-counted =
-      bounded (o + k) 3 ws (legal-inside o k ws legal) kindly kindly-puts (kindStart (o + k) x) (kind-long (o + k) x hx) (kind-below (o + k) x hx 3 (omega arith))
-      (3 * (o + k) - 1) (omega (arith, kind-size (o + k) x hx))
+  -- The count is at most 3N − 1, from an object or a kind.
+  pub counted : (c : ℕ) × Count commands ws (scanStart (o + k) x) c × (c ≤ fullBudget (o + k))
+  counted =
+      bounded (o + k) 3 ws (legal-inside o k ws legal) commands commands-put (scanStart (o + k) x) (start-long (o + k) x hx) (start-below (o + k) x hx 3 (omega arith))
+      (fullBudget (o + k)) (omega (arith, start-size (o + k) x hx))
 
   -- So a budget of 3N − 1 is never spent.
-  pub kind-done : (budget : ℕ) → 3 * (o + k) - 1 ≤ budget → kindScan (o + k) ws x budget .done ≡ true
-  kind-done budget h =
-      let (c, d, l) = kind-counted in
-      ends-within kindly ws (kindStart (o + k) x) c budget d (omega arith)
+  pub full-done : (budget : ℕ) → fullBudget (o + k) ≤ budget → scan (o + k) ws x budget .done ≡ true
+  full-done budget h =
+      let (c, d, l) = counted in
+      ends-within commands ws (scanStart (o + k) x) c budget d (omega arith)
 
--- The marks of a forward scan are those of its nodes.
-pub forward-scan-long : (o k : ℕ) (ws : List ℕ) → LegalWords o k ws → (x : ℕ) → x < o + k → (b : ℕ) → length (forwardScan (o + k) ws x b .marks) ≡ o + k
-forward-scan-long o k ws legal x hx b =
-    scan-long (o + k) ws (legal-inside o k ws legal) forward forward-puts-8 b (forwardStart (o + k) x) (omega (arith, forward-long (o + k) x hx)) ∙ forward-long (o + k) x hx
+  -- A scan leaves one byte a node.
+  pub scan-long : (b : ℕ) → length (scan (o + k) ws x b .marks) ≡ o + k
+  scan-long b =
+      rounds-long (o + k) ws (legal-inside o k ws legal) commands commands-put-8 b (scanStart (o + k) x) (omega (arith, start-long (o + k) x hx)) ∙ start-long (o + k) x hx

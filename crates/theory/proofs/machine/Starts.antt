@@ -9,7 +9,7 @@ use lib.Dec.{eqb}
 use lib.ListN.{length, getD, length-replicate}
 use borrow.Author.Tests.{eqb-true, eq-eqb}
 use Rattle.theory_laws.proofs.Booleans.{contradiction, and-left, and-right, or-split, or-true}
-use Rattle.theory.specs.Marks.{T, U, has, mark, blank, forward, kindly, forwardStart, kindStart, At}
+use Rattle.theory.specs.Marks.{T, U, has, mark, blank, commands, scanStart, At}
 use Rattle.theory.proofs.machine.Growth.{Puts}
 use Rattle.theory.proofs.machine.Commands.{mark-at, mark-length}
 use Rattle.theory.proofs.machine.Soundness.{Within}
@@ -38,42 +38,30 @@ pub mark-keeps : (k t : ℕ) (m : List ℕ) → t < length m → Within (At (mar
 mark-keeps k t m l j v a = mark-at j k t v m l ∙ ap (λ (q : Bool). q || (eqb t v && eqb j k)) a
 
 module _ (n x : ℕ) (h : x < n) where
-  in-blank : x < length (blank n)
-  in-blank = omega (arith, length-replicate {A = ℕ} n 0)
+  pub blank-room : x < length (blank n)
+  blank-room = omega (arith, length-replicate {A = ℕ} n 0)
 
-  in-forward : x < length (forwardStart n x)
-  in-forward = omega (arith, mark-length T x (blank n), length-replicate {A = ℕ} n 0)
+  pub T-long : length (mark T x (blank n)) ≡ n
+  T-long = mark-length T x (blank n) ∙ length-replicate {A = ℕ} n 0
 
-  pub forward-long : length (forwardStart n x) ≡ n
-  forward-long = mark-length T x (blank n) ∙ length-replicate {A = ℕ} n 0
+  T-room : x < length (mark T x (blank n))
+  T-room = omega (arith, T-long)
 
-  pub kind-long : length (kindStart n x) ≡ n
-  kind-long = mark-length U x (forwardStart n x) ∙ forward-long
+  pub start-long : length (scanStart n x) ≡ n
+  start-long = mark-length U x (mark T x (blank n)) ∙ T-long
 
-  pub forward-within : (P : ℕ → ℕ → Type 0) → P T x → Within P (forwardStart n x)
-  forward-within P p = mark-within P T x (blank n) in-blank p (λ j v a. absurd (blank-none n j v a))
+  pub start-within : (P : ℕ → ℕ → Type 0) → P T x → P U x → Within P (scanStart n x)
+  start-within P p q = mark-within P U x (mark T x (blank n)) T-room q (mark-within P T x (blank n) blank-room p (λ j v a. absurd (blank-none n j v a)))
 
-  pub kind-within : (P : ℕ → ℕ → Type 0) → P T x → P U x → Within P (kindStart n x)
-  kind-within P p q = mark-within P U x (forwardStart n x) in-forward q (forward-within P p)
+  pub start-has-T : At (scanStart n x) T x
+  start-has-T = mark-keeps U x (mark T x (blank n)) T-room T x (mark-has T x (blank n) blank-room)
 
-  pub forward-has : At (forwardStart n x) T x
-  forward-has = mark-has T x (blank n) in-blank
+  pub start-has-U : At (scanStart n x) U x
+  start-has-U = mark-has U x (mark T x (blank n)) T-room
 
-  pub kind-has-T : At (kindStart n x) T x
-  kind-has-T = mark-keeps U x (forwardStart n x) in-forward T x forward-has
+-- The commands put T, F and U alone.
+pub commands-put : Puts 3 commands
+commands-put = (omega arith, (omega arith, (omega arith, (omega arith, (omega arith, tt)))))
 
-  pub kind-has-U : At (kindStart n x) U x
-  kind-has-U = mark-has U x (forwardStart n x) in-forward
-
--- The forward scan puts T and F alone, the kind scan U too.
-pub forward-puts : Puts 2 forward
-forward-puts = (omega arith, (omega arith, (omega arith, (omega arith, tt))))
-
-pub kindly-puts : Puts 3 kindly
-kindly-puts = (omega arith, (omega arith, (omega arith, (omega arith, (omega arith, tt)))))
-
-pub forward-puts-8 : Puts 8 forward
-forward-puts-8 = (omega arith, (omega arith, (omega arith, (omega arith, tt))))
-
-pub kindly-puts-8 : Puts 8 kindly
-kindly-puts-8 = (omega arith, (omega arith, (omega arith, (omega arith, (omega arith, tt)))))
+pub commands-put-8 : Puts 8 commands
+commands-put-8 = (omega arith, (omega arith, (omega arith, (omega arith, (omega arith, tt)))))

@@ -4,8 +4,8 @@ use native.Mathlib.Omega.{arith}
 use borrow.Author.Needs.{needs}
 use Rattle.net.proofs.Good.{good-pair}
 use Rattle.question.proofs.Outcomes.{ask-bad, ask-short, ask-done}
-use Rattle.question.proofs.ask_net.Statement.{statement}
-use Rattle.question.proofs.ask_net.Tie as tie
+use Rattle.question.proofs.question_net.Statement.{statement}
+use Rattle.question.proofs.question_net.Tie as tie
 
 returns : tie.Need-returns
 returns c =
@@ -43,8 +43,8 @@ returns-3 c =
     (scanned .before .before .if2 .left) (scanned .full-scan .last .1 .1 .1 .1 .1 .0) (scanned .full-scan .result) (c .answer-at .result)
     (scanned .full-scan .ensures .0) (scanned .full-scan .ensures .1 .0) (scanned .full-scan .ensures .1 .1 .0) (c .answer-at .ensures)
 
-pub ask-net-spec : {M : Type 1} → statement M
-ask-net-spec =
+pub question-net-spec : {M : Type 1} → statement M
+question-net-spec =
     tie.close
     (tie.spec
     (search needs)

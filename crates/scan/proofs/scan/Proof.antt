@@ -5,8 +5,8 @@ use Rattle.net.proofs.OnNet.{passed-on, gone-on}
 use Rattle.scan.specs.Table.{scanOutcome, scanClauses, scanDone}
 use Rattle.scan.specs.declared.Scanned.the-variants.{Refused}
 use Rattle.scan.proofs.Outcomes.{checked-inside}
-use Rattle.scan.proofs.scan_from.Statement.{statement}
-use Rattle.scan.proofs.scan_from.Tie as tie
+use Rattle.scan.proofs.scan.Statement.{statement}
+use Rattle.scan.proofs.scan.Tie as tie
 
 scan-net-requires : tie.Need-scan-net-requires
 scan-net-requires c κs =
@@ -20,8 +20,8 @@ returns c =
     let net = c .before in
     let checked = net .before .before in
     let a = checked .before .before .before .args in
-    passed-on (λ r. scanOutcome (Refused r) (a .marks .now)) (a .o) (a .k) (a .words .now) (scanClauses (a .kind) (a .o) (a .words .now) (a .x) (a .budget) (a .marks .now))
-    (scanDone (a .kind) (a .words .now) (a .x) (a .budget) (a .marks .now)) (sym (checked .check-net .ensures) ∙ net .net .given .1)
+    passed-on (λ r. scanOutcome (Refused r) (a .marks .now)) (a .o) (a .k) (a .words .now) (scanClauses (a .words .now) (a .start) (a .budget) (a .marks .now))
+    (scanDone (a .words .now) (a .start) (a .budget) (a .marks .now)) (sym (checked .check-net .ensures) ∙ net .net .given .1)
 
 returns-2 : tie.Need-returns-2
 returns-2 c =
@@ -29,12 +29,12 @@ returns-2 c =
     let net = ran .before .before .before in
     let checked = net .before .before in
     let a = checked .before .before .before .args in
-    gone-on (λ r. scanOutcome (Refused r) (a .marks .now)) (a .o) (a .k) (a .words .now) (scanClauses (a .kind) (a .o) (a .words .now) (a .x) (a .budget) (a .marks .now))
-    (scanDone (a .kind) (a .words .now) (a .x) (a .budget) (a .marks .now)) (sym (checked .check-net .ensures) ∙ net .net2 .given .1)
+    gone-on (λ r. scanOutcome (Refused r) (a .marks .now)) (a .o) (a .k) (a .words .now) (scanClauses (a .words .now) (a .start) (a .budget) (a .marks .now))
+    (scanDone (a .words .now) (a .start) (a .budget) (a .marks .now)) (sym (checked .check-net .ensures) ∙ net .net2 .given .1)
     (ran .scan-net .ensures)
 
-pub scan-from-spec : {M : Type 1} → statement M
-scan-from-spec =
+pub scan-spec : {M : Type 1} → statement M
+scan-spec =
     tie.close
     (tie.spec
     (search needs)
