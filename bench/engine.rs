@@ -21,15 +21,25 @@ impl Answer {
 
 /// The functions, over slices.
 pub struct Engine {
-    pub check_net: fn(o: u32, k: u32, words: &[u32]) -> Answer,
-    pub scan:
-        fn(o: u32, k: u32, words: &[u32], start: u32, budget: u32, marks: &mut [u8]) -> Answer,
-    pub question: fn(o: u32, k: u32, words: &[u32], x: u32, y: u32, marks: &mut [u8]) -> Answer,
-    pub completion: fn(o: u32, k: u32, words: &[u32], marks: &mut [u8], list: &mut [u32]) -> Answer,
+    pub check_net: fn(o: u32, k: u32, words: &[u32], set: u32) -> Answer,
+    pub scan: fn(
+        o: u32,
+        k: u32,
+        words: &[u32],
+        set: u32,
+        start: u32,
+        budget: u32,
+        marks: &mut [u8],
+    ) -> Answer,
+    pub question:
+        fn(o: u32, k: u32, words: &[u32], set: u32, x: u32, y: u32, marks: &mut [u8]) -> Answer,
+    pub completion:
+        fn(o: u32, k: u32, words: &[u32], set: u32, marks: &mut [u8], list: &mut [u32]) -> Answer,
     pub reason: fn(
         o: u32,
         k: u32,
         words: &[u32],
+        set: u32,
         x: u32,
         y: u32,
         sign: u32,

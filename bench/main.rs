@@ -1,5 +1,6 @@
 //! Times the proved engine against the same algorithm in plain Rust, in one process and by turns, and prints Markdown.
-//! Times are processor time of this process, so that other work on the machine disturbs them little.
+//! Times are processor time of this process, so that other work on the machine disturbs them little. The links have all origins by
+//! turns, and the set lent has them all.
 //!
 //! `bench [ratios]`: with `ratios` no times are printed, for a machine on which the code is emulated.
 
@@ -13,7 +14,7 @@ mod proved;
 mod random;
 
 use engine::{Answer, Engine};
-use nets::{head_of, random_net, tail_of, word, Net};
+use nets::{head_of, random_net, tail_of, word, Net, ALL_ORIGINS, ORIGIN, ORIGINS};
 use random::Random;
 
 const SEED: u64 = 1;
@@ -87,7 +88,13 @@ fn main() {
 }
 
 fn random_shape(o: usize, k: usize, size: usize) -> Shape {
-    let net = random_net(&mut Random::new(SEED, size as u64), o, k, size, 25);
+    let net = of_all_origins(random_net(
+        &mut Random::new(SEED, size as u64),
+        o,
+        k,
+        size,
+        25,
+    ));
     let (x, y) = (tail_of(net.words[0]) as u32, head_of(net.words[1]) as u32);
     Shape {
         name: format!("{} nodes, {} random links", o + k, size),
@@ -100,11 +107,11 @@ fn random_shape(o: usize, k: usize, size: usize) -> Shape {
 
 fn chain_shape(nodes: usize) -> Shape {
     let words = (1..nodes).map(|v| word(v - 1, v, 0)).collect();
-    let net = Net {
+    let net = of_all_origins(Net {
         o: 1,
         k: nodes as u32 - 1,
         words,
-    };
+    });
     Shape {
         name: format!("a chain of {} nodes", nodes),
         net,
@@ -112,6 +119,14 @@ fn chain_shape(nodes: usize) -> Shape {
         y: nodes as u32 - 1,
         sign: 0,
     }
+}
+
+/// The net with its plain words given the origins by turns.
+fn of_all_origins(mut net: Net) -> Net {
+    for (at, word) in net.words.iter_mut().enumerate() {
+        *word += (at % ORIGINS) as u32 * ORIGIN;
+    }
+    net
 }
 
 fn print_operations(ratios: bool, shapes: &[Shape]) {
@@ -258,21 +273,27 @@ fn call(engine: &Engine, operation: Operation, shape: &Shape, room: &mut Room) -
     } = shape;
     let (o, k, x, y, sign) = (*o, *k, *x, *y, *sign);
     match operation {
-        Operation::CheckNet => (engine.check_net)(o, k, words),
-        Operation::Scan => (engine.scan)(o, k, words, x, u32::MAX, &mut room.marks),
-        Operation::Question => (engine.question)(o, k, words, x, y, &mut room.marks),
+        Operation::CheckNet => (engine.check_net)(o, k, words, ALL_ORIGINS),
+        Operation::Scan => (engine.scan)(o, k, words, ALL_ORIGINS, x, u32::MAX, &mut room.marks),
+        Operation::Question => (engine.question)(o, k, words, ALL_ORIGINS, x, y, &mut room.marks),
         Operation::Reason => (engine.reason)(
             o,
             k,
             words,
+            ALL_ORIGINS,
             x,
             y,
             sign,
             &mut room.scratch,
             &mut room.reason_list,
         ),
-        Operation::Completion => {
-            (engine.completion)(o, k, words, &mut room.marks, &mut room.words_list)
-        }
+        Operation::Completion => (engine.completion)(
+            o,
+            k,
+            words,
+            ALL_ORIGINS,
+            &mut room.marks,
+            &mut room.words_list,
+        ),
     }
 }

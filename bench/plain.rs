@@ -1,14 +1,15 @@
 //! The plain engine: the timed operations of the request in ordinary Rust. Its algorithms are the proved engine's, so that
 //! the two can be timed against each other: a scan is the marker machine, a command and a level of distances are one pass
-//! over the words each, and nothing is allocated.
+//! over the words each, a link of an origin that is not chosen is left out where it is read, and nothing is allocated.
 
 use crate::engine::{Answer, Engine};
-use crate::nets::{head_of, tail_of, WORD_LIMIT};
+use crate::nets::{head_of, is_chosen, origin_of, tail_of, ALL_ORIGINS, ORIGINS, WORD_LIMIT};
 
 const NODE_LIMIT: usize = 1024;
 const NO_WAY: u16 = 65_535;
 
-/// Why a word is illegal; the tail is looked at first.
+/// Why a word is illegal; the origin is looked at first, then the tail.
+const CAUSE_ORIGIN: u32 = 3;
 const CAUSE_TAIL: u32 = 1;
 const CAUSE_HEAD: u32 = 2;
 
@@ -32,27 +33,43 @@ fn refused<T>(number: u32) -> Result<T, Answer> {
     Err(Answer::new(number, 0, 0))
 }
 
-/// The operation on the net, if that passes numbers 1 to 3.
-fn on_net(o: u32, k: u32, words: &[u32], operation: impl FnOnce(&Net) -> Outcome) -> Answer {
-    match Net::checked(o, k, words).and_then(|net| operation(&net)) {
+/// The operation on the net, if that passes numbers 1, 2, 15 and 3.
+fn on_net(
+    o: u32,
+    k: u32,
+    words: &[u32],
+    set: u32,
+    operation: impl FnOnce(&Net) -> Outcome,
+) -> Answer {
+    match Net::checked(o, k, words, set).and_then(|net| operation(&net)) {
         Ok(answer) | Err(answer) => answer,
     }
 }
 
-fn check_net(o: u32, k: u32, words: &[u32]) -> Answer {
-    on_net(o, k, words, |net| Ok(Answer::new(0, net.nodes as u32, 0)))
+fn check_net(o: u32, k: u32, words: &[u32], set: u32) -> Answer {
+    on_net(o, k, words, set, |net| {
+        Ok(Answer::new(0, net.nodes as u32, 0))
+    })
 }
 
-fn scan(o: u32, k: u32, words: &[u32], start: u32, budget: u32, marks: &mut [u8]) -> Answer {
-    on_net(o, k, words, |net| {
+fn scan(
+    o: u32,
+    k: u32,
+    words: &[u32],
+    set: u32,
+    start: u32,
+    budget: u32,
+    marks: &mut [u8],
+) -> Answer {
+    on_net(o, k, words, set, |net| {
         let x = net.node(start)?;
         let (ended, count) = net.scan(x, budget, net.places(1, marks)?);
         Ok(Answer::new(if ended { 0 } else { 6 }, count, 0))
     })
 }
 
-fn question(o: u32, k: u32, words: &[u32], x: u32, y: u32, marks: &mut [u8]) -> Answer {
-    on_net(o, k, words, |net| {
+fn question(o: u32, k: u32, words: &[u32], set: u32, x: u32, y: u32, marks: &mut [u8]) -> Answer {
+    on_net(o, k, words, set, |net| {
         let (x, y) = (net.node(x)?, net.kind(y)?);
         let marks = net.places(1, marks)?;
         let count = net.scan_whole(x, marks);
@@ -60,8 +77,15 @@ fn question(o: u32, k: u32, words: &[u32], x: u32, y: u32, marks: &mut [u8]) -> 
     })
 }
 
-fn completion(o: u32, k: u32, words: &[u32], marks: &mut [u8], list: &mut [u32]) -> Answer {
-    on_net(o, k, words, |net| {
+fn completion(
+    o: u32,
+    k: u32,
+    words: &[u32],
+    set: u32,
+    marks: &mut [u8],
+    list: &mut [u32],
+) -> Answer {
+    on_net(o, k, words, set, |net| {
         let marks = net.places(1, marks)?;
         let size = net.count_supported(marks);
         if size <= list.len() {
@@ -81,13 +105,14 @@ fn reason(
     o: u32,
     k: u32,
     words: &[u32],
+    set: u32,
     x: u32,
     y: u32,
     sign: u32,
     scratch: &mut [u16],
     list: &mut [u16],
 ) -> Answer {
-    on_net(o, k, words, |net| {
+    on_net(o, k, words, set, |net| {
         let (x, y) = net.statement(x, y, sign)?;
         let distances = net.places(2, scratch)?;
         net.find_distances(y, sign, distances);
@@ -103,15 +128,16 @@ fn reason(
     })
 }
 
-/// A net that passed numbers 1 to 3.
+/// A net that passed numbers 1, 2, 15 and 3.
 struct Net<'a> {
     objects: usize,
     nodes: usize,
     words: &'a [u32],
+    set: u32,
 }
 
 impl<'a> Net<'a> {
-    fn checked(o: u32, k: u32, words: &'a [u32]) -> Result<Net<'a>, Answer> {
+    fn checked(o: u32, k: u32, words: &'a [u32], set: u32) -> Result<Net<'a>, Answer> {
         let objects = o as usize;
         let nodes = objects + k as usize;
         if nodes > NODE_LIMIT {
@@ -120,20 +146,29 @@ impl<'a> Net<'a> {
         if words.len() > WORD_LIMIT {
             return refused(2);
         }
+        if set > ALL_ORIGINS {
+            return refused(15);
+        }
+        let known = |word: u32| origin_of(word) < ORIGINS as u32;
         let cause = |word: u32| {
-            if tail_of(word) >= nodes {
+            if !known(word) {
+                CAUSE_ORIGIN
+            } else if tail_of(word) >= nodes {
                 CAUSE_TAIL
             } else {
                 CAUSE_HEAD
             }
         };
-        let legal = |word: u32| tail_of(word) < nodes && (objects..nodes).contains(&head_of(word));
+        let legal = |word: u32| {
+            known(word) && tail_of(word) < nodes && (objects..nodes).contains(&head_of(word))
+        };
         match words.iter().position(|&word| !legal(word)) {
             Some(index) => Err(Answer::new(3, index as u32, cause(words[index]))),
             None => Ok(Net {
                 objects,
                 nodes,
                 words,
+                set,
             }),
         }
     }
@@ -181,11 +216,11 @@ impl<'a> Net<'a> {
         marks.fill(0);
         marks[x] = T | U;
         run_rounds(budget, || {
-            command::<0, true, T, T>(self.words, marks)
-                | command::<0, false, U, U>(self.words, marks)
-                | command::<0, true, F, F>(self.words, marks)
-                | command::<1, false, U, F>(self.words, marks)
-                | command::<1, true, U, F>(self.words, marks)
+            command::<0, true, T, T>(self.words, self.set, marks)
+                | command::<0, false, U, U>(self.words, self.set, marks)
+                | command::<0, true, F, F>(self.words, self.set, marks)
+                | command::<1, false, U, F>(self.words, self.set, marks)
+                | command::<1, true, U, F>(self.words, self.set, marks)
         })
     }
 
@@ -226,10 +261,13 @@ impl<'a> Net<'a> {
         }
     }
 
-    /// The moves that a word gives a path of the sign asked. A node of the first part is the state of its own number,
-    /// a node of the second part stands N further on.
+    /// The moves that a word, if it is chosen, gives a path of the sign asked. A node of the first part is the state of its
+    /// own number, a node of the second part stands N further on.
     #[inline(always)]
     fn moves(&self, sign: u32, word: u32, mut each: impl FnMut(usize, usize)) {
+        if !is_chosen(self.set, word) {
+            return;
+        }
         let (tail, head) = (tail_of(word), head_of(word));
         match (sign, word % 2) {
             (0, 0) => each(tail, head),
@@ -296,17 +334,18 @@ fn answer(byte: u8) -> u32 {
     (byte & U != 0) as u32 + 2 * (byte & F != 0) as u32
 }
 
-/// One command: each link of the sign with TEST at the tail, or with UP at the head, puts PUT at its other end. The
-/// marks tested are those at the command's beginning. Whether a mark was set.
+/// One command: each chosen link of the sign with TEST at the tail, or with UP at the head, puts PUT at its other end.
+/// The marks tested are those at the command's beginning. Whether a mark was set.
 fn command<const SIGN: u32, const UP: bool, const TEST: u8, const PUT: u8>(
     words: &[u32],
+    set: u32,
     marks: &mut [u8],
 ) -> bool {
     let mut old = [0; NODE_LIMIT];
     old[..marks.len()].copy_from_slice(marks);
-    let mut set = false;
+    let mut changed = false;
     for &word in words {
-        if word % 2 != SIGN {
+        if word % 2 != SIGN || !is_chosen(set, word) {
             continue;
         }
         let (near, far) = if UP {
@@ -316,10 +355,10 @@ fn command<const SIGN: u32, const UP: bool, const TEST: u8, const PUT: u8>(
         };
         if old[near] & TEST != 0 && marks[far] & PUT == 0 {
             marks[far] |= PUT;
-            set = true;
+            changed = true;
         }
     }
-    set
+    changed
 }
 
 /// Rounds until one sets nothing or the budget is spent: whether the rounds ended, and how many were run.

@@ -9,12 +9,19 @@ mod c {
     use super::Answer;
 
     extern "C" {
-        pub fn strumelka_check_net(o: u32, k: u32, words: *const u32, words_len: usize) -> Answer;
+        pub fn strumelka_check_net(
+            o: u32,
+            k: u32,
+            words: *const u32,
+            words_len: usize,
+            set: u32,
+        ) -> Answer;
         pub fn strumelka_scan(
             o: u32,
             k: u32,
             words: *const u32,
             words_len: usize,
+            set: u32,
             start: u32,
             budget: u32,
             marks: *mut u8,
@@ -25,6 +32,7 @@ mod c {
             k: u32,
             words: *const u32,
             words_len: usize,
+            set: u32,
             x: u32,
             y: u32,
             marks: *mut u8,
@@ -35,6 +43,7 @@ mod c {
             k: u32,
             words: *const u32,
             words_len: usize,
+            set: u32,
             marks: *mut u8,
             marks_len: usize,
             list: *mut u32,
@@ -45,6 +54,7 @@ mod c {
             k: u32,
             words: *const u32,
             words_len: usize,
+            set: u32,
             x: u32,
             y: u32,
             sign: u32,
@@ -65,17 +75,26 @@ pub const ENGINE: Engine = Engine {
     reason,
 };
 
-fn check_net(o: u32, k: u32, words: &[u32]) -> Answer {
-    unsafe { c::strumelka_check_net(o, k, words.as_ptr(), words.len()) }
+fn check_net(o: u32, k: u32, words: &[u32], set: u32) -> Answer {
+    unsafe { c::strumelka_check_net(o, k, words.as_ptr(), words.len(), set) }
 }
 
-fn scan(o: u32, k: u32, words: &[u32], start: u32, budget: u32, marks: &mut [u8]) -> Answer {
+fn scan(
+    o: u32,
+    k: u32,
+    words: &[u32],
+    set: u32,
+    start: u32,
+    budget: u32,
+    marks: &mut [u8],
+) -> Answer {
     unsafe {
         c::strumelka_scan(
             o,
             k,
             words.as_ptr(),
             words.len(),
+            set,
             start,
             budget,
             marks.as_mut_ptr(),
@@ -84,13 +103,14 @@ fn scan(o: u32, k: u32, words: &[u32], start: u32, budget: u32, marks: &mut [u8]
     }
 }
 
-fn question(o: u32, k: u32, words: &[u32], x: u32, y: u32, marks: &mut [u8]) -> Answer {
+fn question(o: u32, k: u32, words: &[u32], set: u32, x: u32, y: u32, marks: &mut [u8]) -> Answer {
     unsafe {
         c::strumelka_question(
             o,
             k,
             words.as_ptr(),
             words.len(),
+            set,
             x,
             y,
             marks.as_mut_ptr(),
@@ -99,13 +119,21 @@ fn question(o: u32, k: u32, words: &[u32], x: u32, y: u32, marks: &mut [u8]) -> 
     }
 }
 
-fn completion(o: u32, k: u32, words: &[u32], marks: &mut [u8], list: &mut [u32]) -> Answer {
+fn completion(
+    o: u32,
+    k: u32,
+    words: &[u32],
+    set: u32,
+    marks: &mut [u8],
+    list: &mut [u32],
+) -> Answer {
     unsafe {
         c::strumelka_completion(
             o,
             k,
             words.as_ptr(),
             words.len(),
+            set,
             marks.as_mut_ptr(),
             marks.len(),
             list.as_mut_ptr(),
@@ -119,6 +147,7 @@ fn reason(
     o: u32,
     k: u32,
     words: &[u32],
+    set: u32,
     x: u32,
     y: u32,
     sign: u32,
@@ -131,6 +160,7 @@ fn reason(
             k,
             words.as_ptr(),
             words.len(),
+            set,
             x,
             y,
             sign,

@@ -4,6 +4,10 @@
  * 32-bit word, STRUMELKA_WORD(tail, head, sign): its tail is any node, its head a kind, its sign says "is" or "is not".
  * Words stand in any order and may repeat.
  *
+ * Who entered a link is its origin, 0 to 3: STRUMELKA_WORD(tail, head, sign) + STRUMELKA_ORIGIN(i) is a link of origin i.
+ * A set of origins goes with the words, and a net is read as if it had no links but theirs; what several of them say
+ * counts once. The words of other origins must be legal too, and they count in lengths and in an index.
+ *
  * No call needs a check before it: every number and every length is accepted, and a call that cannot be done answers
  * its number and leaves the buffers as that number's line says. What the caller owes is what C itself cannot say:
  *
@@ -38,11 +42,24 @@ extern "C" {
 #define STRUMELKA_IS 0u
 #define STRUMELKA_IS_NOT 1u
 
-/* The word of a link, and a word's three parts. */
+/* The plain word of a link, which has origin 0, and what origin i adds to it. The tail is below STRUMELKA_NODE_LIMIT: a
+ * greater one runs into the origin. */
 #define STRUMELKA_WORD(tail, head, sign) ((uint32_t)(tail) * 2048u + (uint32_t)(head) * 2u + (uint32_t)(sign))
-#define STRUMELKA_TAIL(word) ((uint32_t)(word) / 2048u)
+#define STRUMELKA_ORIGIN(i) ((uint32_t)(i) * 2097152u)
+
+/* A word's four parts, and the word without its origin. */
+#define STRUMELKA_ORIGIN_OF(word) ((uint32_t)(word) / 2097152u)
+#define STRUMELKA_PLAIN(word) ((uint32_t)(word) % 2097152u)
+#define STRUMELKA_TAIL(word) (STRUMELKA_PLAIN(word) / 2048u)
 #define STRUMELKA_HEAD(word) ((uint32_t)(word) / 2u % 1024u)
 #define STRUMELKA_SIGN(word) ((uint32_t)(word) % 2u)
+
+/* Sets of origins: that of origin i alone, none and all. STRUMELKA_FROM(0) | STRUMELKA_FROM(2) has two, and
+ * STRUMELKA_ALL_ORIGINS & ~STRUMELKA_FROM(2) leaves one out. Plain words, and so those of a completed list, are read with
+ * a set that has origin 0. */
+#define STRUMELKA_FROM(i) ((uint32_t)1u << (i))
+#define STRUMELKA_NO_ORIGIN 0u
+#define STRUMELKA_ALL_ORIGINS 15u
 
 /* Buffer sizes for a net of o objects and k kinds, in elements; constant where o and k are.
  * MARKS and SCRATCH are what a call needs, and less is refused. REASON_LIST and COMPLETION_LIST are the most that any
@@ -66,10 +83,12 @@ extern "C" {
 #define STRUMELKA_ANSWER_NO 2u
 #define STRUMELKA_ANSWER_BOTH 3u
 
-/* The numbers. Where several apply, the smallest is given. (Number 9 is about net files, which no function here reads.) */
+/* The numbers. Where several apply, the one that stands first here is given: 15 comes before 3. (Number 9 is about net
+ * files, which no function here reads.) */
 #define STRUMELKA_NUMBER_DONE 0u
 #define STRUMELKA_NUMBER_TOO_MANY_NODES 1u
 #define STRUMELKA_NUMBER_TOO_MANY_WORDS 2u
+#define STRUMELKA_NUMBER_BAD_SET 15u
 #define STRUMELKA_NUMBER_ILLEGAL_WORD 3u
 #define STRUMELKA_NUMBER_BAD_QUESTION 4u
 #define STRUMELKA_NUMBER_SHORT_BUFFER 5u
@@ -77,9 +96,10 @@ extern "C" {
 #define STRUMELKA_NUMBER_NOTHING_FOUND 7u
 #define STRUMELKA_NUMBER_SHORT_LIST 8u
 
-/* Why a word is illegal; the tail is looked at first. */
-#define STRUMELKA_CAUSE_TAIL 1u /* its tail is no node */
-#define STRUMELKA_CAUSE_HEAD 2u /* its head is no kind */
+/* Why a word is illegal; the origin is looked at first, then the tail. */
+#define STRUMELKA_CAUSE_ORIGIN 3u /* its origin is above 3 */
+#define STRUMELKA_CAUSE_TAIL 1u   /* its tail is no node */
+#define STRUMELKA_CAUSE_HEAD 2u   /* its head is no kind */
 
 /* What every function answers: the number and up to two values. A value that a line below does not mention is 0. */
 struct strumelka_answer {
@@ -88,90 +108,91 @@ struct strumelka_answer {
     uint32_t second;
 };
 
-/* The test of a single word for a net of o objects and k kinds.
+/* The test of a single word, of any origin, for a net of o objects and k kinds.
  *   0  a legal word
  *   1  o + k is over STRUMELKA_NODE_LIMIT, added without wrapping
- *   3  an illegal word; first = 0; second = STRUMELKA_CAUSE_TAIL or STRUMELKA_CAUSE_HEAD */
+ *   3  an illegal word; first = 0; second = STRUMELKA_CAUSE_ORIGIN, _TAIL or _HEAD */
 struct strumelka_answer strumelka_check_word(uint32_t o, uint32_t k, uint32_t word);
 
 /* The check of a net, with which every function below begins.
- *   0  a legal net; first = its nodes, o + k
- *   1  o + k is over STRUMELKA_NODE_LIMIT, added without wrapping
- *   2  words_len is over STRUMELKA_WORD_LIMIT
- *   3  some word's tail is no node or its head no kind; first = the index of the first such word,
- *      second = its cause, STRUMELKA_CAUSE_TAIL or STRUMELKA_CAUSE_HEAD
- * In every function below 1, 2 and 3 mean the same, with the same values, and all buffers are as they were. */
+ *   0   a legal net; first = its nodes, o + k
+ *   1   o + k is over STRUMELKA_NODE_LIMIT, added without wrapping
+ *   2   words_len is over STRUMELKA_WORD_LIMIT
+ *   15  set is over STRUMELKA_ALL_ORIGINS
+ *   3   some word, of whatever origin, is illegal; first = the index of the first such word among all words,
+ *       second = its cause, STRUMELKA_CAUSE_ORIGIN, _TAIL or _HEAD
+ * In every function below 1, 2, 15 and 3 mean the same, with the same values, and all buffers are as they were. */
 struct strumelka_answer strumelka_check_net(
-    uint32_t o, uint32_t k, const uint32_t *words, size_t words_len);
+    uint32_t o, uint32_t k, const uint32_t *words, size_t words_len, uint32_t set);
 
 /* The scan from node start, an object or a kind, within budget rounds. T and U begin on start. Afterwards U at a kind
  * means that start is of that kind, and F at a kind that it is not. Where start is a kind, T at any node means that the
  * node is of kind start, and F that it is not. Where start is an object, T stays on start alone, and the bytes of objects
  * say nothing.
- *   0        the scan ended; first = the rounds run, the last one, which set nothing, among them; the first o + k bytes
- *            of marks are the scan's
- *   1, 2, 3  as in strumelka_check_net
- *   4        start is no node; marks unchanged
- *   5        marks_len is below STRUMELKA_MARKS(o, k); marks unchanged
- *   6        the scan needs more rounds than budget; first = budget; marks after exactly that many rounds. What they
- *            say holds, and more may follow
+ *   0            the scan ended; first = the rounds run, the last one, which set nothing, among them; the first o + k
+ *                bytes of marks are the scan's
+ *   1, 2, 15, 3  as in strumelka_check_net
+ *   4            start is no node; marks unchanged
+ *   5            marks_len is below STRUMELKA_MARKS(o, k); marks unchanged
+ *   6            the scan needs more rounds than budget; first = budget; marks after exactly that many rounds. What they
+ *                say holds, and more may follow
  * A scan takes at most 3 * (o + k) - 1 rounds, so that a budget of that many is always enough. */
 struct strumelka_answer strumelka_scan(
-    uint32_t o, uint32_t k, const uint32_t *words, size_t words_len,
+    uint32_t o, uint32_t k, const uint32_t *words, size_t words_len, uint32_t set,
     uint32_t start, uint32_t budget, uint8_t *marks, size_t marks_len);
 
 /* The question whether node x is of kind y.
- *   0        first = STRUMELKA_ANSWER_NONE, _YES, _NO or _BOTH; second = the rounds of the scan from x, whose marks
- *            are left in the first o + k bytes
- *   1, 2, 3  as in strumelka_check_net
- *   4        x is no node, or y is no kind; marks unchanged
- *   5        marks_len is below STRUMELKA_MARKS(o, k); marks unchanged */
+ *   0            first = STRUMELKA_ANSWER_NONE, _YES, _NO or _BOTH; second = the rounds of the scan from x, whose marks
+ *                are left in the first o + k bytes
+ *   1, 2, 15, 3  as in strumelka_check_net
+ *   4            x is no node, or y is no kind; marks unchanged
+ *   5            marks_len is below STRUMELKA_MARKS(o, k); marks unchanged */
 struct strumelka_answer strumelka_question(
-    uint32_t o, uint32_t k, const uint32_t *words, size_t words_len,
+    uint32_t o, uint32_t k, const uint32_t *words, size_t words_len, uint32_t set,
     uint32_t x, uint32_t y, uint8_t *marks, size_t marks_len);
 
-/* The completion: every supported statement as a word, ascending, none twice.
- *   0        first = the words written to the front of list; places after them unchanged
- *   1, 2, 3  as in strumelka_check_net
- *   5        marks_len is below STRUMELKA_MARKS(o, k); marks and list unchanged
- *   8        list_len is too small; first = the words needed; list unchanged
+/* The completion: every supported statement as a plain word, ascending, none twice.
+ *   0            first = the words written to the front of list; places after them unchanged
+ *   1, 2, 15, 3  as in strumelka_check_net
+ *   5            marks_len is below STRUMELKA_MARKS(o, k); marks and list unchanged
+ *   8            list_len is too small; first = the words needed; list unchanged
  * With 0 and 8 the first o + k bytes of marks are zero afterwards. */
 struct strumelka_answer strumelka_completion(
-    uint32_t o, uint32_t k, const uint32_t *words, size_t words_len,
+    uint32_t o, uint32_t k, const uint32_t *words, size_t words_len, uint32_t set,
     uint8_t *marks, size_t marks_len, uint32_t *list, size_t list_len);
 
 /* The clash test: is some node, object or kind, both of some kind and not of it?
- *   0        first = the smallest such node; second = its smallest such kind
- *   1, 2, 3  as in strumelka_check_net
- *   5        marks_len is below STRUMELKA_MARKS(o, k); marks unchanged
- *   7        no node clashes
+ *   0            first = the smallest such node; second = its smallest such kind
+ *   1, 2, 15, 3  as in strumelka_check_net
+ *   5            marks_len is below STRUMELKA_MARKS(o, k); marks unchanged
+ *   7            no node clashes
  * With 0 and 7 the first o + k bytes of marks are zero afterwards. */
 struct strumelka_answer strumelka_clash(
-    uint32_t o, uint32_t k, const uint32_t *words, size_t words_len,
+    uint32_t o, uint32_t k, const uint32_t *words, size_t words_len, uint32_t set,
     uint8_t *marks, size_t marks_len);
 
 /* The shortest reason for a statement: node x is of kind y (sign STRUMELKA_IS), or is not (STRUMELKA_IS_NOT). The list
  * begins with the sizes of the path's first and second part, and the nodes of both follow.
- *   0        first = the places written to the front of list; places after them unchanged
- *   1, 2, 3  as in strumelka_check_net
- *   4        x is no node, y is no kind, or sign is neither of the two; scratch and list unchanged
- *   5        scratch_len is below STRUMELKA_SCRATCH(o, k); scratch and list unchanged
- *   7        the net does not support the statement; list unchanged
- *   8        list_len is too small; first = the places needed; list unchanged
+ *   0            first = the places written to the front of list; places after them unchanged
+ *   1, 2, 15, 3  as in strumelka_check_net
+ *   4            x is no node, y is no kind, or sign is neither of the two; scratch and list unchanged
+ *   5            scratch_len is below STRUMELKA_SCRATCH(o, k); scratch and list unchanged
+ *   7            the net does not support the statement; list unchanged
+ *   8            list_len is too small; first = the places needed; list unchanged
  * With 0, 7 and 8 place v of scratch holds the fewest links from node v in the first part to the path's end, and place
  * o + k + v the same for node v in the second part, STRUMELKA_NO_WAY where there is none. */
 struct strumelka_answer strumelka_reason(
-    uint32_t o, uint32_t k, const uint32_t *words, size_t words_len,
+    uint32_t o, uint32_t k, const uint32_t *words, size_t words_len, uint32_t set,
     uint32_t x, uint32_t y, uint32_t sign,
     uint16_t *scratch, size_t scratch_len, uint16_t *list, size_t list_len);
 
 /* The check of a reason from anybody: is list a path of the net that shows the statement, with nothing after it? A path
  * may be longer than the shortest and may repeat kinds. Nothing is written.
- *   0        first = 1 if it is, 0 if not; a list that is empty, cut short or names a node outside the net is not
- *   1, 2, 3  as in strumelka_check_net
- *   4        x is no node, y is no kind, or sign is neither of the two */
+ *   0            first = 1 if it is, 0 if not; a list that is empty, cut short or names a node outside the net is not
+ *   1, 2, 15, 3  as in strumelka_check_net
+ *   4            x is no node, y is no kind, or sign is neither of the two */
 struct strumelka_answer strumelka_reason_check(
-    uint32_t o, uint32_t k, const uint32_t *words, size_t words_len,
+    uint32_t o, uint32_t k, const uint32_t *words, size_t words_len, uint32_t set,
     uint32_t x, uint32_t y, uint32_t sign,
     const uint16_t *list, size_t list_len);
 

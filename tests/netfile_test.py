@@ -1,5 +1,5 @@
 #!/usr/bin/env python3
-"""Tests tools/netfile.py: net M's bytes, round trips, every refusal, and that a refusal writes nothing."""
+"""Tests tools/netfile.py: net M's bytes in both forms, round trips, every refusal, and that a refusal writes nothing."""
 
 import contextlib
 import importlib.util
@@ -40,15 +40,47 @@ ask 2 5
 ask 3 4
 ask 3 0
 """
+
+# M in a file of four entries: its second link is of origin 3, its third of origin 1, and 0, 1 and 3 are to be used.
+M_FOUR_FILE = bytes.fromhex(
+    "20000000 08000000 28000000 14000000 3c000000 14000000 50000000 04000000"
+    "02000000 04000000"
+    "04000000 0a086000 07102000 06200000 08280000"
+    "00000400 01000400 02000500 03000400 03000000"
+    "0b000000"
+)
+M_FOUR_TEXT = b"""objects 2
+kinds 4
+origins 0 1 3
+0 is 2
+1 is 5 origin 3
+2 is-not 3 origin 1
+4 is 3
+5 is 4
+ask 0 4
+ask 1 4
+ask 2 5
+ask 3 4
+ask 3 0
+"""
 OLD = b"what stood there before"
 
 
-def file_of(objects, kinds, words, questions):
-    """A net file, put together here without the tool."""
-    links = b"".join(word.to_bytes(4, "little") for word in words)
+def numbers_of(*numbers):
+    """Numbers of four bytes."""
+    return b"".join(number.to_bytes(4, "little") for number in numbers)
+
+
+def file_of(objects, kinds, words, questions, origins=None):
+    """A net file, put together here without the tool: of four entries where a set of origins is given."""
+    links = numbers_of(*words)
     asked = b"".join(x.to_bytes(2, "little") + y.to_bytes(2, "little") for x, y in questions)
-    numbers = (24, 8, 32, len(links), 32 + len(links), len(asked), objects, kinds)
-    return b"".join(number.to_bytes(4, "little") for number in numbers) + links + asked
+    if origins is None:
+        contents = numbers_of(24, 8, 32, len(links), 32 + len(links), len(asked))
+        return contents + numbers_of(objects, kinds) + links + asked
+    behind = 40 + len(links)
+    contents = numbers_of(32, 8, 40, len(links), behind, len(asked), behind + len(asked), 4)
+    return contents + numbers_of(objects, kinds) + links + asked + numbers_of(origins)
 
 
 def run(*arguments, given=b""):
@@ -103,6 +135,15 @@ class NetM(InFolder):
         listed = run("list", ROOT / "nets" / "m.net")
         self.assertEqual((listed.returncode, listed.stdout, listed.stderr), (0, M_TEXT, b""))
 
+    def test_four_entries(self):
+        self.assertEqual(len(M_FOUR_FILE), 84)
+        self.assertEqual(struct.unpack_from("<8I", M_FOUR_FILE), (32, 8, 40, 20, 60, 20, 80, 4))
+        self.assertEqual(struct.unpack_from("<5I", M_FOUR_FILE, 40), (4, 3 * 2097152 + 2058, 2097152 + 4103, 8198, 10248))
+        self.assertEqual(self.make(M_FOUR_TEXT), (0, ""))
+        self.assertEqual(self.file.read_bytes(), M_FOUR_FILE)
+        listed = run("list", self.file)
+        self.assertEqual((listed.returncode, listed.stdout, listed.stderr), (0, M_FOUR_TEXT, b""))
+
     def test_standard_input_and_output(self):
         made = run("make", "-", "-", given=M_TEXT)
         self.assertEqual((made.returncode, made.stdout, made.stderr), (0, M_FILE, b""))
@@ -131,6 +172,8 @@ class RoundTrips(InFolder):
             ]
             questions = [(chance.randrange(65536), chance.randrange(65536)) for _ in range(chance.choice((0, 1, 20)))]
             self.both_ways(file_of(objects, nodes - objects, words, questions))
+            entered = [chance.randrange(4) * 2097152 + word for word in words]
+            self.both_ways(file_of(objects, nodes - objects, entered, questions, chance.randrange(16)))
 
     def test_random_illegal_nets(self):
         chance = random.Random(2)
@@ -139,6 +182,7 @@ class RoundTrips(InFolder):
             words = [chance.randrange(2**32) for _ in range(chance.choice((0, 1, 5, 100)))]
             questions = [(chance.randrange(65536), chance.randrange(65536)) for _ in range(chance.choice((0, 1, 20)))]
             self.both_ways(file_of(*counts, words, questions), "--unchecked")
+            self.both_ways(file_of(*counts, words, questions, chance.randrange(2**32)), "--unchecked")
 
     def test_extremes(self):
         self.both_ways(file_of(0, 0, [], []))
@@ -146,6 +190,14 @@ class RoundTrips(InFolder):
         self.both_ways(file_of(0, 1024, [1023 * 2048 + 1023 * 2 + 1], [(65535, 65535)]))
         self.both_ways(file_of(1, 1, [2] * 8000, [(0, 1)] * 184))
         self.both_ways(file_of(1, 1, [2**32 - 1, 0, 1], []), "--unchecked")
+
+    def test_extremes_with_origins(self):
+        for origins in range(16):
+            self.both_ways(file_of(0, 0, [], [], origins))
+        self.both_ways(file_of(0, 1024, [4 * 2097152 - 1], [(65535, 65535)], 15))
+        self.both_ways(file_of(1, 1, [3 * 2097152 + 2] * 8000, [(0, 1)] * 181, 8))
+        self.both_ways(file_of(1, 1, [2**32 - 1, 4 * 2097152, 0, 1], [], 2**32 - 1), "--unchecked")
+        self.both_ways(file_of(1, 1, [], [], 16), "--unchecked")
 
     def test_accessories(self):
         data = (ROOT / "nets" / "accessories.net").read_bytes()
@@ -157,6 +209,34 @@ class RoundTrips(InFolder):
         listed = run("list", "-", given=file_of(1, 1, [2**32 - 1, 1024 * 2048 + 2, 0], []))
         self.assertEqual(listed.returncode, 0)
         self.assertEqual(listed.stdout, b"objects 1\nkinds 1\n2097151 is-not 1023\n1024 is 1\n0 is 0\n")
+
+    def test_origins_are_listed(self):
+        cases = [(0, b"none"), (1, b"0"), (8, b"3"), (15, b"0 1 2 3"), (16, b"4"), (2**31 + 9, b"0 3 31")]
+        for origins, written in cases:
+            listed = run("list", "-", given=file_of(1, 1, [2, 2097154, 2**32 - 1], [], origins))
+            self.assertEqual(listed.returncode, 0)
+            links = b"0 is 1\n0 is 1 origin 1\n1023 is-not 1023 origin 2047\n"
+            self.assertEqual(listed.stdout, b"objects 1\nkinds 1\norigins " + written + b"\n" + links)
+
+    def test_origins_are_written(self):
+        cases = [(b"none", 0), (b"0", 1), (b"3", 8), (b"3 0 002", 13), (b"0 1 2 3", 15)]
+        for written, origins in cases:
+            text = b"origins " + written + b" # to use\n" + COUNTS + b"0 is 2 origin 0\n0 is 2\n5 is-not 5\torigin 3\nask 0 2\n"
+            self.assertEqual(self.make(text), (0, ""))
+            self.assertEqual(self.file.read_bytes(), file_of(2, 4, [4, 4, 3 * 2097152 + 10251], [(0, 2)], origins))
+
+    def test_without_the_line_there_are_three_entries(self):
+        text = M_FOUR_TEXT.replace(b"origins 0 1 3\n", b"").replace(b" origin 3", b"").replace(b" origin 1", b"")
+        self.assertEqual(self.make(text), (0, ""))
+        self.assertEqual(self.file.read_bytes(), M_FILE)
+
+    def test_the_help_shows_a_text(self):
+        helped = run("make", "--help")
+        self.assertEqual((helped.returncode, helped.stderr), (0, b""))
+        shown = helped.stdout.split(b"One line of the text", 1)[1].splitlines()
+        text = b"\n".join(line[:18] for line in shown if line.startswith(b"  "))
+        self.assertEqual(self.make(text), (0, ""))
+        self.assertEqual(self.file.read_bytes(), file_of(2, 4, [4, 4103, 2097152 + 8198], [(0, 4)], 11))
 
     def test_layout_of_the_text_is_free(self):
         text = b"# \xff\xfe name\r\n\n\tkinds\t4 # four\r\nask 3 0\nobjects 002#two\n  0   is 2"
@@ -209,10 +289,31 @@ BAD_TEXTS = [
     (COUNTS + b"0 is 2 3\n", 3, "`3` stands after the end"),
     (COUNTS + b"ask 0 2 3\n", 3, "`3` stands after the end"),
     (b"objects 2 3\n", 1, "`3` stands after the end"),
+    (COUNTS + b"origins 0\n0 is 2\n0 is 2 origin 4\n", 5, "origin 4 is too large, the largest is 3"),
+    (COUNTS + b"origins 0 4\n", 3, "origin 4 is too large, the largest is 3"),
+    (COUNTS + b"origins 0\n0 is 2 origin 2048\n", 4, "origin 2048 is too large"),
+    (COUNTS + b"origins 32\n", 3, "origin 32 is too large"),
+    (COUNTS + b"origins 0\n0 is 2 origin user\n", 4, "origin `user` is not a decimal number"),
+    (COUNTS + b"origins 0 all\n", 3, "origin `all` is not a decimal number"),
+    (COUNTS + b"origins none 1\n", 3, "origin `none` is not a decimal number"),
+    (COUNTS + b"origins 1 0 1\n", 3, "origin 1 stands twice"),
+    (COUNTS + b"origins\n", 3, "ends after `origins`"),
+    (COUNTS + b"origins 0\n0 is 2 origin\n", 4, "ends after `origin`"),
+    (COUNTS + b"origins 0\n0 is 2 origin 1 2\n", 4, "`2` stands after the end"),
+    (COUNTS + b"origins 0\n0 is 2 origins 1\n", 4, "`origins` stands after the end"),
+    (COUNTS + b"origins 0\nask 0 2 origin 1\n", 4, "`origin` stands after the end"),
+    (COUNTS + b"origins 0\norigins 0\n", 4, "a second `origins` line"),
+    (COUNTS + b"0 is 2\norigins 0\n", 4, "`origins` must stand before the first link"),
+    (COUNTS + b"0 is 2 origin 1\n", 3, "must be a line `origins NUMBER ..`"),
+    (COUNTS + b"origins 0\n6 is 2 origin 1\n", 4, "tail 6 is outside the net"),
+    (COUNTS + b"origins 0\n0 is 1 origin 1\n", 4, "head 1 is an object"),
+    (COUNTS + b"origins 0\n1024 is 2\n", 4, "tail 1024 is too large, the largest is 1023"),
+    (COUNTS + b"origins 0\n" + b"0 is 2\n" * 8182, 8185, "more than 32768 bytes"),
+    (COUNTS + b"ask 0 2\n" * 8182 + b"origins 0\n", 8185, "more than 32768 bytes"),
 ]
 
 # Parts of the messages that --unchecked does away with.
-LET_THROUGH = ("outside the net", "is an object", "1025 nodes", "4294967295 nodes")
+LET_THROUGH = ("outside the net", "is an object", "1025 nodes", "4294967295 nodes", "origin 4 is too large")
 
 
 class Refusals(InFolder):
@@ -251,6 +352,7 @@ class Refusals(InFolder):
         cases = [
             (COUNTS + b"6 is 2\n0 is 1\n0 is-not 1023\n2097151 is 6\n", (2, 4, [12292, 2, 2047, 4294965260], [])),
             (b"objects 4294967295\nkinds 1\n", (4294967295, 1, [], [])),
+            (COUNTS + b"origins 4\n6 is 0 origin 4\n1023 is 1 origin 2047\n", (2, 4, [8400896, 4294965250], [], 16)),
         ]
         for text, parts in cases:
             self.assertEqual(self.make(text, "--unchecked"), (0, ""))
@@ -299,9 +401,9 @@ class Files(InFolder):
         self.assertEqual(os.listdir(self.folder), ["net.txt"])
 
 
-def with_number(offset, number):
-    """M with one number of the contents replaced."""
-    return M_FILE[:offset] + number.to_bytes(4, "little") + M_FILE[offset + 4:]
+def with_number(offset, number, file=M_FILE):
+    """A file, M if none is given, with one number of the contents replaced."""
+    return file[:offset] + number.to_bytes(4, "little") + file[offset + 4:]
 
 
 class Malformed(InFolder):
@@ -322,7 +424,8 @@ class Malformed(InFolder):
         (M_FILE + bytes(32769 - 72), 3),
         (file_of(1, 1, [2] * 8184, []) + b"\0", 3),
         (with_number(0, 23), 0),
-        (with_number(0, 32), 0),
+        (with_number(0, 32), 1),
+        (with_number(0, 40), 0),
         (with_number(4, 4), 0),
         (with_number(4, 12), 0),
         (with_number(4, 2**32 - 16), 0),
@@ -338,6 +441,38 @@ class Malformed(InFolder):
         (with_number(20, 24), 2),
         (with_number(20, 2**32 - 52), 2),
         (bytes(24), 0),
+        (M_FOUR_FILE[:23], 3),
+        (M_FOUR_FILE[:24], 3),
+        (M_FOUR_FILE[:31], 3),
+        (M_FOUR_FILE[:32], 0),
+        (M_FOUR_FILE[:39], 0),
+        (M_FOUR_FILE[:40], 1),
+        (M_FOUR_FILE[:59], 1),
+        (M_FOUR_FILE[:60], 2),
+        (M_FOUR_FILE[:79], 2),
+        (M_FOUR_FILE[:80], 4),
+        (M_FOUR_FILE[:83], 4),
+        (M_FOUR_FILE + b"\0", 4),
+        (M_FOUR_FILE + bytes(4), 4),
+        (M_FOUR_FILE + bytes(32768 - 84), 4),
+        (M_FOUR_FILE + bytes(32769 - 84), 3),
+        (with_number(0, 24, M_FOUR_FILE), 1),
+        (with_number(0, 31, M_FOUR_FILE), 0),
+        (with_number(4, 4, M_FOUR_FILE), 0),
+        (with_number(8, 32, M_FOUR_FILE), 1),
+        (with_number(12, 18, M_FOUR_FILE), 1),
+        (with_number(16, 56, M_FOUR_FILE), 2),
+        (with_number(20, 18, M_FOUR_FILE), 2),
+        (with_number(20, 28, M_FOUR_FILE), 2),
+        (with_number(20, 24, M_FOUR_FILE), 4),
+        (with_number(20, 16, M_FOUR_FILE), 4),
+        (with_number(24, 60, M_FOUR_FILE), 4),
+        (with_number(24, 84, M_FOUR_FILE), 4),
+        (with_number(28, 0, M_FOUR_FILE), 4),
+        (with_number(28, 8, M_FOUR_FILE) + bytes(4), 4),
+        (with_number(28, 3, M_FOUR_FILE)[:83], 4),
+        (with_number(28, 5, M_FOUR_FILE) + b"\0", 4),
+        (with_number(28, 2**32 - 80, M_FOUR_FILE), 4),
     ]
 
     def test_places(self):

@@ -8,12 +8,35 @@ import stat
 import struct
 import sys
 
-CONTENTS_SIZE = 24
+SYNTAX = """\
+One line of the text holds one statement; from # to the end of the line is comment.
+
+  objects 2          the number of objects
+  kinds 4            the number of kinds
+  origins 0 1 3      the set of origins to use; `origins none` is the empty set
+  0 is 2             a link with sign 0: tail 0, head 2
+  2 is-not 3         a link with sign 1: tail 2, head 3
+  4 is 3 origin 1    a link that origin 1 entered; where no origin is named it is 0
+  ask 0 4            a question: x = 0, y = 4
+
+objects, kinds and origins stand before the first link. An origin is 0, 1, 2 or 3.
+With a line `origins` the file has four contents entries. Without one it has three,
+and no link names an origin.
+"""
+
+ENTRY_SIZE = 8
+EXACT_LENGTHS = {0: 8, 3: 4}
+LEAST_SIZE = 24
 FILE_LIMIT = 32768
 NODE_LIMIT = 1024
 COUNT_LIMIT = 0xFFFFFFFF
+PLAIN_WORDS = 2097152
 TAIL_LIMIT = 0xFFFFFFFF // 2048
+TAIL_LIMIT_BESIDE_ORIGIN = PLAIN_WORDS // 2048 - 1
 HEAD_LIMIT = 1023
+ORIGIN_LIMIT = 3
+ORIGIN_LIMIT_IN_WORD = 0xFFFFFFFF // PLAIN_WORDS
+ORIGIN_LIMIT_IN_SET = 31
 QUESTION_LIMIT = 0xFFFF
 SIGNS = {"is": 0, "is-not": 1}
 COUNTS = ("objects", "kinds")
@@ -38,21 +61,29 @@ class Refused(Exception):
 
 
 class Net:
-    """The counts, link words and questions of one net file, in file order."""
+    """The counts, link words and questions of one net file, in file order, and its set of origins: None where it has three entries."""
 
     def __init__(self):
         self.counts = {}
+        self.origins = None
         self.words = []
         self.questions = []
 
+    def size(self):
+        """The number of bytes of the net file."""
+        sizes = [8, 4 * len(self.words), 4 * len(self.questions)] + [4] * (self.origins is not None)
+        return len(sizes) * ENTRY_SIZE + sum(sizes)
+
     def to_bytes(self):
-        """The net file: contents, then the three bodies without a gap."""
+        """The net file: contents, then the bodies without a gap."""
         bodies = [
             struct.pack("<2I", *(self.counts[name] for name in COUNTS)),
             struct.pack(f"<{len(self.words)}I", *self.words),
             b"".join(struct.pack("<2H", *question) for question in self.questions),
         ]
-        contents, start = b"", CONTENTS_SIZE
+        if self.origins is not None:
+            bodies.append(struct.pack("<I", self.origins))
+        contents, start = b"", len(bodies) * ENTRY_SIZE
         for body in bodies:
             contents += struct.pack("<2I", start, len(body))
             start += len(body)
@@ -61,11 +92,19 @@ class Net:
     def to_text(self):
         """The lines that `make` turns back into the same file."""
         lines = [f"{name} {self.counts[name]}" for name in COUNTS]
-        for word in self.words:
-            verb = "is-not" if word % 2 else "is"
-            lines.append(f"{word // 2048} {verb} {word // 2 % 1024}")
+        if self.origins is not None:
+            chosen = [str(bit) for bit in range(ORIGIN_LIMIT_IN_SET + 1) if self.origins >> bit & 1]
+            lines.append("origins " + (" ".join(chosen) or "none"))
+        lines += [self.link_text(word) for word in self.words]
         lines += [f"ask {x} {y}" for x, y in self.questions]
         return "".join(line + "\n" for line in lines)
+
+    def link_text(self, word):
+        """The line of one link word, with its origin where it has one."""
+        origin = 0 if self.origins is None else word // PLAIN_WORDS
+        plain = word - origin * PLAIN_WORDS
+        verb = "is-not" if plain % 2 else "is"
+        return f"{plain // 2048} {verb} {plain // 2 % 1024}" + (f" origin {origin}" if origin else "")
 
 
 class TextReader:
@@ -92,12 +131,15 @@ class TextReader:
         if words[0] in COUNTS:
             self.require_size(words, 2)
             self.count(*words)
+        elif words[0] == "origins":
+            self.set_of_origins(words)
         elif words[0] == "ask":
             self.require_size(words, 3)
             self.question(*words[1:])
         elif len(words) > 1 and words[1] in SIGNS:
-            self.require_size(words, 3)
-            self.link(*words)
+            named = words[3:4] == ["origin"]
+            self.require_size(words, 5 if named else 3)
+            self.link(*words[:3], words[4] if named else None)
         elif words[0].isdigit() and len(words) > 1:
             self.fail(f"unknown word `{words[1]}`, where `is` or `is-not` should stand")
         elif words[0].isdigit():
@@ -114,14 +156,34 @@ class TextReader:
         if nodes > NODE_LIMIT and not self.unchecked:
             self.fail(f"{nodes} nodes, and a net has at most {NODE_LIMIT}")
 
-    def link(self, tail_written, verb, head_written):
-        """Takes `TAIL is HEAD` or `TAIL is-not HEAD`."""
-        tail = self.number("tail", tail_written, TAIL_LIMIT)
+    def set_of_origins(self, words):
+        """Takes `origins NUMBER ..` or `origins none`."""
+        if self.net.origins is not None:
+            self.fail("a second `origins` line")
+        if self.net.words:
+            self.fail("the line `origins` must stand before the first link")
+        self.require_size(words[:2], 2)
+        self.net.origins = 0
+        for written in [] if words[1:] == ["none"] else words[1:]:
+            origin = self.number("origin", written, ORIGIN_LIMIT_IN_SET if self.unchecked else ORIGIN_LIMIT)
+            if self.net.origins >> origin & 1:
+                self.fail(f"origin {origin} stands twice")
+            self.net.origins |= 1 << origin
+        self.require_room()
+
+    def link(self, tail_written, verb, head_written, origin_written):
+        """Takes `TAIL is HEAD` or `TAIL is-not HEAD`, with `origin NUMBER` or without."""
+        tail = self.number("tail", tail_written, TAIL_LIMIT if self.net.origins is None else TAIL_LIMIT_BESIDE_ORIGIN)
         head = self.number("head", head_written, HEAD_LIMIT)
+        origin = 0
+        if origin_written is not None:
+            origin = self.number("origin", origin_written, ORIGIN_LIMIT_IN_WORD if self.unchecked else ORIGIN_LIMIT)
         self.require_counts("before the first link there must be")
+        if origin_written is not None and self.net.origins is None:
+            self.fail("where links name an origin there must be a line `origins NUMBER ..` before the first link")
         if not self.unchecked:
             self.require_legal(tail, head)
-        self.net.words.append(tail * 2048 + head * 2 + SIGNS[verb])
+        self.net.words.append(origin * PLAIN_WORDS + tail * 2048 + head * 2 + SIGNS[verb])
         self.require_room()
 
     def question(self, x_written, y_written):
@@ -163,8 +225,7 @@ class TextReader:
 
     def require_room(self):
         """The file so far is not above the limit."""
-        size = CONTENTS_SIZE + 8 + 4 * (len(self.net.words) + len(self.net.questions))
-        if size > FILE_LIMIT:
+        if self.net.size() > FILE_LIMIT:
             self.fail(f"the file would have more than {FILE_LIMIT} bytes")
 
     def fail(self, message):
@@ -174,22 +235,26 @@ class TextReader:
 
 def read_net(data):
     """The net in a well-formed file; a malformed one gives the place of its first fault."""
-    if not CONTENTS_SIZE <= len(data) <= FILE_LIMIT:
+    if not LEAST_SIZE <= len(data) <= FILE_LIMIT:
         raise BadFile(3)
-    end, bodies = CONTENTS_SIZE, []
-    for place in range(3):
-        start, length = struct.unpack_from("<2I", data, 8 * place)
-        right_length = length == 8 if place == 0 else length % 4 == 0
-        if start != end or not right_length or start + length > len(data):
+    count = 4 if struct.unpack_from("<I", data) == (32,) else 3
+    end, bodies = count * ENTRY_SIZE, []
+    if len(data) < end:
+        raise BadFile(3)
+    for entry, place in enumerate((0, 1, 2, 4)[:count]):
+        start, length = struct.unpack_from("<2I", data, entry * ENTRY_SIZE)
+        right_length = length == EXACT_LENGTHS[entry] if entry in EXACT_LENGTHS else length % 4 == 0
+        right_end = start + length == len(data) if entry + 1 == count else start + length <= len(data)
+        if start != end or not right_length or not right_end:
             raise BadFile(place)
         end = start + length
         bodies.append(data[start:end])
-    if end != len(data):
-        raise BadFile(2)
     net = Net()
     net.counts = dict(zip(COUNTS, struct.unpack("<2I", bodies[0])))
     net.words = [word for word, in struct.iter_unpack("<I", bodies[1])]
     net.questions = list(struct.iter_unpack("<2H", bodies[2]))
+    if count == 4:
+        net.origins, = struct.unpack("<I", bodies[3])
     return net
 
 
@@ -235,9 +300,10 @@ def list_net(file_path):
 
 def main(arguments):
     """Runs one command and gives the exit status."""
-    parser = argparse.ArgumentParser(prog="netfile.py", description=__doc__)
+    layout = argparse.RawDescriptionHelpFormatter
+    parser = argparse.ArgumentParser(prog="netfile.py", description=__doc__, epilog=SYNTAX, formatter_class=layout)
     commands = parser.add_subparsers(dest="command", required=True)
-    maker = commands.add_parser("make", help="make a net file from text")
+    maker = commands.add_parser("make", help="make a net file from text", epilog=SYNTAX, formatter_class=layout)
     maker.add_argument("--unchecked", action="store_true", help="let illegal nets through, to try the engine's refusals")
     maker.add_argument("text", metavar="TEXT", help="the text, or - for standard input")
     maker.add_argument("file", metavar="FILE", help="the net file, or - for standard output")

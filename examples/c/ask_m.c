@@ -1,17 +1,23 @@
-/* Asks the questions of net M, prints a line for each as `ask` does, and then the reason why 0 is not 5. */
+/* Asks the questions of net M, to which a user has added a link, without the user's links: prints a line for each as `ask` does,
+ * and then the reason why 0 is not 5. The last lines are what the user's link makes of the net. */
 #include <stdio.h>
 
 #include "strumelka.h"
 
 enum { OBJECTS = 2, KINDS = 4 };
 
+/* Who enters links, and the set that leaves the user out. */
+enum { FACTORY = 0, LAB = 1, USER = 2 };
+static const uint32_t without_user = STRUMELKA_ALL_ORIGINS & ~STRUMELKA_FROM(USER);
+
 /* Traces 0 and 1; truncated averages 2, unbiased 3, mean-valid 4, rounded averages 5. */
 static const uint32_t net[] = {
-    STRUMELKA_WORD(0, 2, STRUMELKA_IS),
-    STRUMELKA_WORD(1, 5, STRUMELKA_IS),
-    STRUMELKA_WORD(2, 3, STRUMELKA_IS_NOT),
-    STRUMELKA_WORD(4, 3, STRUMELKA_IS),
-    STRUMELKA_WORD(5, 4, STRUMELKA_IS),
+    STRUMELKA_WORD(0, 2, STRUMELKA_IS) + STRUMELKA_ORIGIN(LAB),
+    STRUMELKA_WORD(1, 5, STRUMELKA_IS) + STRUMELKA_ORIGIN(LAB),
+    STRUMELKA_WORD(2, 3, STRUMELKA_IS_NOT) + STRUMELKA_ORIGIN(FACTORY),
+    STRUMELKA_WORD(4, 3, STRUMELKA_IS) + STRUMELKA_ORIGIN(FACTORY),
+    STRUMELKA_WORD(5, 4, STRUMELKA_IS) + STRUMELKA_ORIGIN(FACTORY),
+    STRUMELKA_WORD(0, 4, STRUMELKA_IS) + STRUMELKA_ORIGIN(USER),
 };
 static const size_t net_len = sizeof net / sizeof net[0];
 
@@ -19,11 +25,11 @@ static const uint32_t questions[][2] = {{0, 4}, {1, 4}, {2, 5}, {3, 4}, {3, 0}};
 
 static const char *const answers[] = {"none", "yes", "no", "both"};
 
-static void ask(uint32_t x, uint32_t y)
+static void ask(uint32_t set, uint32_t x, uint32_t y)
 {
     uint8_t marks[STRUMELKA_MARKS(OBJECTS, KINDS)];
     struct strumelka_answer answer =
-        strumelka_question(OBJECTS, KINDS, net, net_len, x, y, marks, sizeof marks / sizeof marks[0]);
+        strumelka_question(OBJECTS, KINDS, net, net_len, set, x, y, marks, sizeof marks / sizeof marks[0]);
     if (answer.number == STRUMELKA_NUMBER_DONE)
         printf("%u %u %s %u\n", (unsigned)x, (unsigned)y, answers[answer.first], (unsigned)answer.second);
     else
@@ -31,12 +37,12 @@ static void ask(uint32_t x, uint32_t y)
 }
 
 /* Prints the reason for "x is not y"; 0 if there is one. */
-static int reason_against(uint32_t x, uint32_t y)
+static int reason_against(uint32_t set, uint32_t x, uint32_t y)
 {
     uint16_t scratch[STRUMELKA_SCRATCH(OBJECTS, KINDS)];
     uint16_t list[STRUMELKA_REASON_LIST(OBJECTS, KINDS)];
     struct strumelka_answer answer =
-        strumelka_reason(OBJECTS, KINDS, net, net_len, x, y, STRUMELKA_IS_NOT,
+        strumelka_reason(OBJECTS, KINDS, net, net_len, set, x, y, STRUMELKA_IS_NOT,
                          scratch, sizeof scratch / sizeof scratch[0], list, sizeof list / sizeof list[0]);
     if (answer.number != STRUMELKA_NUMBER_DONE) {
         printf("reason %u -/> %u refused %u\n", (unsigned)x, (unsigned)y, (unsigned)answer.number);
@@ -49,18 +55,42 @@ static int reason_against(uint32_t x, uint32_t y)
     return 0;
 }
 
+/* Prints where the net clashes, or that it does not. */
+static void test_for_clash(uint32_t set)
+{
+    uint8_t marks[STRUMELKA_MARKS(OBJECTS, KINDS)];
+    struct strumelka_answer answer =
+        strumelka_clash(OBJECTS, KINDS, net, net_len, set, marks, sizeof marks / sizeof marks[0]);
+    if (answer.number == STRUMELKA_NUMBER_DONE)
+        printf("clash at %u %u\n", (unsigned)answer.first, (unsigned)answer.second);
+    else
+        printf("no clash\n");
+}
+
+/* Whether words with a wrong origin, tail and head are known by their causes, and a set with a fifth origin by its number. */
+static int refuses_what_is_wrong(void)
+{
+    return strumelka_check_word(OBJECTS, KINDS, STRUMELKA_PLAIN(net[0]) + STRUMELKA_ORIGIN(4)).second == STRUMELKA_CAUSE_ORIGIN
+        && strumelka_check_word(OBJECTS, KINDS, STRUMELKA_WORD(OBJECTS + KINDS, OBJECTS, STRUMELKA_IS)).second == STRUMELKA_CAUSE_TAIL
+        && strumelka_check_word(OBJECTS, KINDS, STRUMELKA_WORD(0, 0, STRUMELKA_IS)).second == STRUMELKA_CAUSE_HEAD
+        && strumelka_check_net(OBJECTS, KINDS, net, net_len, STRUMELKA_FROM(4)).number == STRUMELKA_NUMBER_BAD_SET;
+}
+
 int main(void)
 {
-    struct strumelka_answer answer = strumelka_check_net(OBJECTS, KINDS, net, net_len);
+    struct strumelka_answer answer = strumelka_check_net(OBJECTS, KINDS, net, net_len, without_user);
     if (answer.number != STRUMELKA_NUMBER_DONE) {
         printf("net %u %u %u\n", (unsigned)answer.number, (unsigned)answer.first, (unsigned)answer.second);
         return 1;
     }
-    /* A tail outside the net, and an object as the head. */
-    if (strumelka_check_word(OBJECTS, KINDS, STRUMELKA_WORD(OBJECTS + KINDS, OBJECTS, STRUMELKA_IS)).second != STRUMELKA_CAUSE_TAIL
-        || strumelka_check_word(OBJECTS, KINDS, STRUMELKA_WORD(0, 0, STRUMELKA_IS)).second != STRUMELKA_CAUSE_HEAD)
+    if (!refuses_what_is_wrong())
         return 1;
     for (size_t i = 0; i < sizeof questions / sizeof questions[0]; i++)
-        ask(questions[i][0], questions[i][1]);
-    return reason_against(0, 5);
+        ask(without_user, questions[i][0], questions[i][1]);
+    if (reason_against(without_user, 0, 5) != 0)
+        return 1;
+    test_for_clash(without_user);
+    ask(STRUMELKA_ALL_ORIGINS, 0, 4);
+    test_for_clash(STRUMELKA_ALL_ORIGINS);
+    return 0;
 }

@@ -4,7 +4,7 @@
 use crate::call::run;
 use crate::case::Case;
 use crate::fields::Field;
-use crate::nets::{draw_illegal, word, Net};
+use crate::nets::{draw_illegal, draw_origin, plain, word, Net, ALL_ORIGINS};
 use crate::operations::Operation;
 use crate::paths::draw_path;
 use crate::random::Random;
@@ -33,6 +33,7 @@ fn draw_field(random: &mut Random, net: &Net, field: Field) -> Vec<u32> {
         Field::Objects => vec![net.o],
         Field::Kinds => vec![net.k],
         Field::Words => net.words.clone(),
+        Field::Set => vec![draw_set(random)],
         Field::Word => vec![draw_word(random, net)],
         Field::Node => vec![draw_node(random, net)],
         Field::Kind => vec![draw_kind(random, net)],
@@ -109,7 +110,18 @@ fn draw_word(random: &mut Random, net: &Net) -> u32 {
         return draw_illegal(random, net);
     }
     let head = net.o as usize + random.below(net.k as usize);
-    word(random.below(net.nodes()), head, random.below(2))
+    word(random.below(net.nodes()), head, random.below(2)) + draw_origin(random)
+}
+
+/// Mostly a set that leaves out no origin or one, else any, and now and then a number that is none.
+fn draw_set(random: &mut Random) -> u32 {
+    let any = random.next() as u32;
+    match random.below(100) {
+        0..=39 => ALL_ORIGINS,
+        40..=64 => random.pick(&[14, 13, 11, 7]),
+        65..=92 => any % 16,
+        _ => random.pick(&[16, 17, 31, 255, 65_536, u32::MAX, any | 16]),
+    }
 }
 
 fn draw_wrong(random: &mut Random, net: &Net) -> u32 {
@@ -173,32 +185,61 @@ fn draw_budget(random: &mut Random, count: u32, nodes: u32) -> u32 {
     ])
 }
 
-/// A net file with some questions, its bytes one by one, now and then damaged.
+/// A net file with some questions, its bytes one by one, now and then damaged: one with a set of origins, or one of plain words.
 fn draw_file(random: &mut Random, net: &Net) -> Vec<u32> {
-    let words = 4 * net.words.len() as u32;
+    let with_set = random.chance(60);
+    let mut words = net.words.clone();
+    if !with_set && random.chance(90) {
+        words.iter_mut().for_each(|word| *word = plain(*word));
+    }
     let questions: Vec<u32> = (0..random.below(7))
         .map(|_| draw_node(random, net) & 0xffff | draw_kind(random, net) << 16)
         .collect();
-    let asked = 4 * questions.len() as u32;
-    let mut numbers = vec![24, 8, 32, words, 32 + words, asked, net.o, net.k];
+    let set = if with_set {
+        vec![draw_set(random)]
+    } else {
+        Vec::new()
+    };
+    let bodies = [vec![net.o, net.k], words, questions, set];
+    let entries = 3 + with_set as usize;
+    let mut start = 8 * entries as u32;
+    let mut numbers = Vec::new();
+    for body in &bodies[..entries] {
+        let length = 4 * body.len() as u32;
+        numbers.extend([start, length]);
+        start += length;
+    }
     if random.chance(30) {
-        let at = random.below(6);
+        let at = random.below(numbers.len());
         let any = random.next() as u32;
         numbers[at] = random.pick(&[
             0,
+            24,
+            32,
             any,
             numbers[at] ^ 1,
             numbers[at] ^ 4,
             u32::MAX - numbers[at],
         ]);
     }
-    numbers.extend(&net.words);
-    numbers.extend(questions);
+    bodies.iter().for_each(|body| numbers.extend(body));
     let bytes = numbers.iter().flat_map(|number| number.to_le_bytes());
     let mut file: Vec<u32> = bytes.map(u32::from).collect();
     if random.chance(20) {
         let any = random.below(file.len() + 1);
-        let size = random.pick(&[any, 0, 23, 24, 31, file.len() + 1, file.len() + 4, 32_769]);
+        let size = random.pick(&[
+            any,
+            0,
+            23,
+            24,
+            31,
+            32,
+            39,
+            file.len().saturating_sub(1),
+            file.len() + 1,
+            file.len() + 4,
+            32_769,
+        ]);
         file.resize(size, 0);
     }
     file

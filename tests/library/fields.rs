@@ -5,6 +5,7 @@ pub enum Field {
     Objects,
     Kinds,
     Words,
+    Set,
     Word,
     Node,
     Kind,
@@ -45,10 +46,11 @@ const fn shape(name: &'static str, field: Field, width: usize, most: usize, lent
     }
 }
 
-static SHAPES: [Shape; 15] = [
+static SHAPES: [Shape; 16] = [
     number("o", Field::Objects),
     number("k", Field::Kinds),
     shape("words", Field::Words, 4, 16_384, false),
+    number("set", Field::Set),
     number("word", Field::Word),
     number("node", Field::Node),
     number("kind", Field::Kind),

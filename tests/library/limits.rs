@@ -5,7 +5,7 @@ use crate::call::{run, Outcome};
 use crate::case::Case;
 use crate::draw::draw_case;
 use crate::fields::Field;
-use crate::nets::{random_net, Net, WORD_LIMIT};
+use crate::nets::{draw_origin, random_net, Net, ALL_ORIGINS, WORD_LIMIT};
 use crate::operations::Operation;
 use crate::random::Random;
 use crate::tally::Tally;
@@ -17,18 +17,23 @@ pub fn calls_at_limit(
     tally: &mut Tally,
 ) -> Result<(), String> {
     let mut random = Random::new(seed, u64::MAX);
-    for (net, answer) in refused_nets(&mut random) {
+    for (net, set, answer) in refused_nets(&mut random) {
         for operation in on_nets(operations) {
-            let case = draw_case(&mut random, &net, operations, operation);
+            let mut case = draw_case(&mut random, &net, operations, operation);
+            case.set(Field::Set, vec![set]);
             let expected = Outcome::unchanged(&case, answer);
             hold(&case, &expected, tally)?;
         }
     }
     for (o, k, size) in [(0, 1, 2), (24, 1000, 16_000)] {
-        let few = random_net(&mut random, o, k, size, 20);
+        let mut few = random_net(&mut random, o, k, size, 20);
+        few.words
+            .iter_mut()
+            .for_each(|word| *word += draw_origin(&mut random));
         let many = repeated(&mut random, &few);
         for operation in on_nets(operations).filter(|it| k == 1 || !it.from_every_node) {
             let mut case = draw_case(&mut random, &many, operations, operation);
+            case.set(Field::Set, vec![random.below(16) as u32]);
             let whole = case.clone();
             case.set(Field::Words, few.words.clone());
             hold(&whole, &run(&case, 0)?, tally)?;
@@ -45,9 +50,9 @@ fn on_nets(operations: &[Operation]) -> impl Iterator<Item = &Operation> {
         .filter(lent_words)
 }
 
-/// One word too many, with and without too many nodes and an illegal word; and as many as are allowed, the last one illegal by
-/// its head.
-fn refused_nets(random: &mut Random) -> Vec<(Net, Answer)> {
+/// Nets, and sets to read them with. One word too many, with and without too many nodes, an illegal word and a set that is none;
+/// and as many as are allowed, the last one illegal by its head, with that set and with one that leaves the word out.
+fn refused_nets(random: &mut Random) -> Vec<(Net, u32, Answer)> {
     let over = random_net(random, 1, 2, WORD_LIMIT + 1, 20);
     let mut both = over.clone();
     both.o = 1023;
@@ -57,10 +62,11 @@ fn refused_nets(random: &mut Random) -> Vec<(Net, Answer)> {
     last.words.truncate(WORD_LIMIT);
     last.words[WORD_LIMIT - 1] = 0;
     vec![
-        (over, Answer::new(2, 0, 0)),
-        (both, Answer::new(1, 0, 0)),
-        (illegal, Answer::new(2, 0, 0)),
-        (last, Answer::new(3, WORD_LIMIT as u32 - 1, 2)),
+        (over, ALL_ORIGINS, Answer::new(2, 0, 0)),
+        (both, u32::MAX, Answer::new(1, 0, 0)),
+        (illegal, 16, Answer::new(2, 0, 0)),
+        (last.clone(), 16, Answer::new(15, 0, 0)),
+        (last, 0, Answer::new(3, WORD_LIMIT as u32 - 1, 2)),
     ]
 }
 

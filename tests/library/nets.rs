@@ -1,8 +1,13 @@
-//! Random nets: from none and a handful of nodes to the limits, sound and damaged.
+//! Random nets: from none and a handful of nodes to the limits, sound and damaged, with links from all origins.
 
 use crate::random::Random;
 
 pub const WORD_LIMIT: usize = 2_097_152;
+
+/// A word is its origin times this number, and its plain word.
+pub const ORIGIN: u32 = 2_097_152;
+pub const ORIGINS: usize = 4;
+pub const ALL_ORIGINS: u32 = 15;
 
 /// A net as a caller hands it over; nothing says that it is legal.
 #[derive(Clone)]
@@ -18,9 +23,15 @@ impl Net {
         (self.o as usize + self.k as usize).min(1024)
     }
 
-    /// A node that a link of the sign leads to from a node: at the link's head, or at its tail where `back` holds. A tail that is
-    /// no node is cut to the 16 bits of a place in a path.
-    pub fn link_at(&self, random: &mut Random, node: u32, back: bool, sign: u32) -> Option<u32> {
+    /// A node that a chosen link of the sign leads to from a node: at the link's head, or at its tail where `back` holds.
+    pub fn link_at(
+        &self,
+        random: &mut Random,
+        set: u32,
+        node: u32,
+        back: bool,
+        sign: u32,
+    ) -> Option<u32> {
         let ends = |word: u32| {
             let (tail, head) = (tail_of(word), head_of(word));
             if back {
@@ -29,18 +40,34 @@ impl Net {
                 (tail, head)
             }
         };
-        let near = |&word: &u32| ends(word).0 == node as usize && word % 2 == sign;
+        let near =
+            |&word: &u32| is_chosen(set, word) && ends(word).0 == node as usize && word % 2 == sign;
         let found: Vec<u32> = self.words.iter().copied().filter(near).collect();
         if found.is_empty() {
             return None;
         }
-        Some(ends(random.pick(&found)).1 as u32 % 65_536)
+        Some(ends(random.pick(&found)).1 as u32)
     }
+}
+
+/// A word's origin.
+pub fn origin_of(word: u32) -> u32 {
+    word / ORIGIN
+}
+
+/// A word without its origin.
+pub fn plain(word: u32) -> u32 {
+    word % ORIGIN
+}
+
+/// Whether the origin of a legal word is in the set.
+pub fn is_chosen(set: u32, word: u32) -> bool {
+    set.wrapping_shr(origin_of(word)) & 1 != 0
 }
 
 /// A word's tail.
 pub fn tail_of(word: u32) -> usize {
-    (word / 2048) as usize
+    (plain(word) / 2048) as usize
 }
 
 /// A word's head.
@@ -48,12 +75,12 @@ pub fn head_of(word: u32) -> usize {
     (word / 2 % 1024) as usize
 }
 
-/// The word of a link.
+/// The plain word of a link.
 pub fn word(tail: usize, head: usize, sign: usize) -> u32 {
     (tail * 2048 + head * 2 + sign) as u32
 }
 
-/// `size` random links, `against` in a hundred of them "is not".
+/// `size` random links of origin 0, `against` in a hundred of them "is not".
 pub fn random_net(random: &mut Random, o: usize, k: usize, size: usize, against: usize) -> Net {
     let mut words = Vec::with_capacity(size);
     if k > 0 {
@@ -93,6 +120,11 @@ pub fn chain_net(random: &mut Random, o: usize, k: usize) -> Net {
 /// The next net of a run: most are small, so that every corner of a small net is met many times.
 pub fn draw_net(random: &mut Random) -> Net {
     let mut net = draw_shape(random);
+    if random.chance(70) {
+        for word in &mut net.words {
+            *word = plain(*word) + draw_origin(random);
+        }
+    }
     if random.chance(30) {
         repeat_words(random, &mut net);
     }
@@ -100,6 +132,11 @@ pub fn draw_net(random: &mut Random) -> Net {
         damage(random, &mut net);
     }
     net
+}
+
+/// What one of the origins adds to a plain word.
+pub fn draw_origin(random: &mut Random) -> u32 {
+    random.below(ORIGINS) as u32 * ORIGIN
 }
 
 /// A net without repeated and illegal words, though it may have too many nodes.
@@ -150,15 +187,16 @@ fn over_limit(random: &mut Random) -> (u32, u32) {
     ])
 }
 
-/// Some words once more.
+/// Some words once more, of the same origin or of another.
 fn repeat_words(random: &mut Random, net: &mut Net) {
     if net.words.is_empty() {
         return;
     }
     for _ in 0..random.within(1, 3) {
         let again = random.pick(&net.words);
+        let other = plain(again) + draw_origin(random);
         let at = random.below(net.words.len() + 1);
-        net.words.insert(at, again);
+        net.words.insert(at, random.pick(&[again, other]));
     }
 }
 
@@ -171,19 +209,27 @@ fn damage(random: &mut Random, net: &mut Net) {
     }
 }
 
-/// A word that is illegal, or any word: an object as its head, a head or a tail of exactly N or of more, both ends wrong.
+/// A word that is illegal where the net is not of the largest, or any word: an object as its head, a head or a tail of exactly N
+/// or of more, both ends wrong, each with one of the origins; an origin above those, with ends that are right or wrong.
 pub fn draw_illegal(random: &mut Random, net: &Net) -> u32 {
     let (o, nodes) = (net.o as usize, net.nodes());
+    let (first_beyond, any_object) = (nodes.min(1023), random.below(o.min(1024)));
+    let beyond = random.within(first_beyond, 1023);
     let sign = random.below(2);
     let tail = random.below(nodes);
     let kind = (o + random.below(nodes.saturating_sub(o))).min(1023);
-    match random.below(7) {
-        0 => word(tail, random.below(o.min(1024)), sign),
-        1 => word(tail, nodes.min(1023), sign),
-        2 => word(tail, random.within(nodes.min(1023), 1023), sign),
-        3 => word(nodes, kind, sign),
-        4 => word(random.within(nodes, 2_097_151), kind, sign),
-        5 => word(nodes, random.below(o.min(1024)), sign),
+    let far = random.within(ORIGINS, 2047) as u32;
+    let wrong_origin = random.pick(&[ORIGINS as u32, far]) * ORIGIN;
+    match random.below(10) {
+        0 => word(tail, any_object, sign) + draw_origin(random),
+        1 => word(tail, first_beyond, sign) + draw_origin(random),
+        2 => word(tail, beyond, sign) + draw_origin(random),
+        3 => word(first_beyond, kind, sign) + draw_origin(random),
+        4 => word(beyond, kind, sign) + draw_origin(random),
+        5 => word(first_beyond, any_object, sign) + draw_origin(random),
+        6 => word(tail, kind, sign) + wrong_origin,
+        7 => word(first_beyond, any_object, sign) + wrong_origin,
+        8 => word(nodes, kind, sign),
         _ => random.next() as u32,
     }
 }

@@ -4,6 +4,13 @@
 
 #include "strumelka.h"
 
+/* The parts of a word are those that it is put together from, and a set has the origins that it is put together from. */
+#define ANY_WORD (STRUMELKA_WORD(1023, 514, STRUMELKA_IS_NOT) + STRUMELKA_ORIGIN(3))
+_Static_assert(ANY_WORD == 8387589u && STRUMELKA_PLAIN(ANY_WORD) == 2096133u, "the word");
+_Static_assert(STRUMELKA_ORIGIN_OF(ANY_WORD) == 3u && STRUMELKA_TAIL(ANY_WORD) == 1023u, "its origin and tail");
+_Static_assert(STRUMELKA_HEAD(ANY_WORD) == 514u && STRUMELKA_SIGN(ANY_WORD) == STRUMELKA_IS_NOT, "its head and sign");
+_Static_assert((STRUMELKA_FROM(0) | STRUMELKA_FROM(1) | STRUMELKA_FROM(2) | STRUMELKA_FROM(3)) == STRUMELKA_ALL_ORIGINS, "the sets");
+
 /* A field of a case as it is handed over: a number, or a list and its length. */
 struct field {
     uint32_t number;
@@ -27,26 +34,26 @@ struct operation {
 #define BYTES(i) (uint8_t *)fields[i].list, fields[i].length
 #define HALVES(i) (uint16_t *)fields[i].list, fields[i].length
 #define WORDS(i) (uint32_t *)fields[i].list, fields[i].length
-#define NET NUMBER(0), NUMBER(1), WORDS(2)
+#define NET NUMBER(0), NUMBER(1), WORDS(2), NUMBER(3)
 
 /* Name, fields, outcomes, from every node; then the arguments of the C function. */
-#define EXPORTED(_)                                                                 \
-    _(check_word, "o k word", "0 1 3=0,1 3=0,2", false,                             \
-      NUMBER(0), NUMBER(1), NUMBER(2))                                              \
-    _(check_net, "o k words", "0 1 2 3", false,                                     \
-      NET)                                                                          \
-    _(scan, "o k words node budget marks", "0 1 2 3 4 5 6", false,                  \
-      NET, NUMBER(3), NUMBER(4), BYTES(5))                                          \
-    _(question, "o k words node kind marks", "0=0 0=1 0=2 0=3 1 2 3 4 5", true,     \
-      NET, NUMBER(3), NUMBER(4), BYTES(5))                                          \
-    _(completion, "o k words marks list", "0 1 2 3 5 8", true,                      \
-      NET, BYTES(3), WORDS(4))                                                      \
-    _(clash, "o k words marks", "0 1 2 3 5 7", true,                                \
-      NET, BYTES(3))                                                                \
-    _(reason, "o k words node kind sign scratch reason", "0 1 2 3 4 5 7 8", false,  \
-      NET, NUMBER(3), NUMBER(4), NUMBER(5), HALVES(6), HALVES(7))                   \
-    _(reason_check, "o k words node kind sign path", "0=0 0=1 1 2 3 4", false,      \
-      NET, NUMBER(3), NUMBER(4), NUMBER(5), HALVES(6))
+#define EXPORTED(_)                                                                        \
+    _(check_word, "o k word", "0 1 3=0,1 3=0,2 3=0,3", false,                              \
+      NUMBER(0), NUMBER(1), NUMBER(2))                                                     \
+    _(check_net, "o k words set", "0 1 2 15 3", false,                                     \
+      NET)                                                                                 \
+    _(scan, "o k words set node budget marks", "0 1 2 15 3 4 5 6", false,                  \
+      NET, NUMBER(4), NUMBER(5), BYTES(6))                                                 \
+    _(question, "o k words set node kind marks", "0=0 0=1 0=2 0=3 1 2 15 3 4 5", true,     \
+      NET, NUMBER(4), NUMBER(5), BYTES(6))                                                 \
+    _(completion, "o k words set marks list", "0 1 2 15 3 5 8", true,                      \
+      NET, BYTES(4), WORDS(5))                                                             \
+    _(clash, "o k words set marks", "0 1 2 15 3 5 7", true,                                \
+      NET, BYTES(4))                                                                       \
+    _(reason, "o k words set node kind sign scratch reason", "0 1 2 15 3 4 5 7 8", false,  \
+      NET, NUMBER(4), NUMBER(5), NUMBER(6), HALVES(7), HALVES(8))                          \
+    _(reason_check, "o k words set node kind sign path", "0=0 0=1 1 2 15 3 4", false,      \
+      NET, NUMBER(4), NUMBER(5), NUMBER(6), HALVES(7))
 
 static void take(struct strumelka_answer given, uint32_t answer[3])
 {
@@ -66,7 +73,7 @@ EXPORTED(CALL)
 
 const struct operation operations[] = {
     EXPORTED(LINE)
-    {"file", "file", "0 9=0 9=1 9=2 9=3", false, NULL},
+    {"file", "file", "0 9=0 9=1 9=2 9=3 9=4", false, NULL},
     {"ask", "file byte", "0", true, NULL},
 };
 const size_t operations_len = sizeof operations / sizeof operations[0];

@@ -3,12 +3,15 @@
 use crate::call::run;
 use crate::case::Case;
 use crate::fields::Field;
-use crate::nets::Net;
+use crate::nets::{Net, ALL_ORIGINS};
 use crate::operations::Operation;
 use crate::random::Random;
 
-/// Puts a list into the case. Where it is a path, the statement asked is mostly the one that it shows.
+/// Puts a list into the case. Where it is a path, the statement asked is mostly the one that it shows. Its links are mostly
+/// chosen ones, and now and then of any origin.
 pub fn draw_path(random: &mut Random, net: &Net, operations: &[Operation], case: &mut Case) {
+    let chosen = case.values_of(Field::Set)[0];
+    let set = random.pick(&[chosen, chosen, chosen, ALL_ORIGINS]);
     let mut list = match random.below(11) {
         0 => {
             let size = random.below(7);
@@ -20,9 +23,9 @@ pub fn draw_path(random: &mut Random, net: &Net, operations: &[Operation], case:
             let size = random.below(7);
             (0..size).map(|_| any_place(random)).collect()
         }
-        2 => without_first_part(random, net, case),
-        3..=5 => shortest(net, operations, case),
-        _ => wander(random, net, case),
+        2 => without_first_part(random, net, set, case),
+        3..=5 => shortest(net, set, operations, case),
+        _ => wander(random, net, set, case),
     };
     if random.chance(45) {
         spoil(random, net, &mut list);
@@ -35,10 +38,11 @@ fn any_place(random: &mut Random) -> u32 {
 }
 
 /// The reason for the statement asked, or a list that is none.
-fn shortest(net: &Net, operations: &[Operation], case: &Case) -> Vec<u32> {
+fn shortest(net: &Net, set: u32, operations: &[Operation], case: &Case) -> Vec<u32> {
     let operation = operations.iter().find(|it| it.name == "reason");
     let operation = operation.expect("the archive gives reasons");
     let fill = |&field: &Field| match field {
+        Field::Set => vec![set],
         Field::Scratch => vec![0; 2 * net.nodes()],
         Field::Reason => vec![0; 2 * net.nodes() + 3],
         _ => case.values_of(field).to_vec(),
@@ -58,16 +62,16 @@ fn shortest(net: &Net, operations: &[Operation], case: &Case) -> Vec<u32> {
 }
 
 /// A path along random links, with kinds repeated now and then, and mostly the statement that it shows.
-fn wander(random: &mut Random, net: &Net, case: &mut Case) -> Vec<u32> {
+fn wander(random: &mut Random, net: &Net, set: u32, case: &mut Case) -> Vec<u32> {
     let mut first = vec![random.below(net.nodes()) as u32];
     let mut second = Vec::new();
-    extend(random, net, &mut first, false);
+    extend(random, net, set, &mut first, false);
     if random.chance(60) {
         let end = first[first.len() - 1];
         let back = random.chance(50);
-        if let Some(crossed) = net.link_at(random, end, back, 1) {
+        if let Some(crossed) = net.link_at(random, set, end, back, 1) {
             second.push(crossed);
-            extend(random, net, &mut second, true);
+            extend(random, net, set, &mut second, true);
         }
     }
     if random.chance(95) {
@@ -81,9 +85,9 @@ fn wander(random: &mut Random, net: &Net, case: &mut Case) -> Vec<u32> {
 }
 
 /// A second part that is right in itself, with a first part of size 0.
-fn without_first_part(random: &mut Random, net: &Net, case: &mut Case) -> Vec<u32> {
+fn without_first_part(random: &mut Random, net: &Net, set: u32, case: &mut Case) -> Vec<u32> {
     let mut second = vec![random.below(net.nodes()) as u32];
-    extend(random, net, &mut second, true);
+    extend(random, net, set, &mut second, true);
     state(case, second[0], second[second.len() - 1], 1);
     let mut list = vec![0, second.len() as u32];
     list.extend(second);
@@ -98,12 +102,12 @@ fn state(case: &mut Case, x: u32, y: u32, sign: u32) {
 }
 
 /// Up to seven more steps of one part.
-fn extend(random: &mut Random, net: &Net, part: &mut Vec<u32>, back: bool) {
+fn extend(random: &mut Random, net: &Net, set: u32, part: &mut Vec<u32>, back: bool) {
     for _ in 0..random.below(8) {
         let end = part[part.len() - 1];
         if random.chance(20) && end >= net.o {
             part.push(end);
-        } else if let Some(next) = net.link_at(random, end, back, 0) {
+        } else if let Some(next) = net.link_at(random, set, end, back, 0) {
             part.push(next);
         }
     }

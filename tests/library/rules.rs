@@ -6,13 +6,14 @@ use std::collections::BTreeSet;
 use crate::answer::Answer;
 use crate::case::Case;
 use crate::fields::Field;
-use crate::nets::{head_of, tail_of, word};
+use crate::nets::{head_of, is_chosen, plain, tail_of, word};
 
 const SMALL_NET: usize = 7;
 
-/// The words of all statements that the words of a legal net support.
-fn supported(o: usize, nodes: usize, words: &[u32]) -> BTreeSet<u32> {
-    let mut set: BTreeSet<u32> = words.iter().copied().collect();
+/// The plain words of all statements that the chosen words of a legal net support.
+fn supported(o: usize, nodes: usize, words: &[u32], origins: u32) -> BTreeSet<u32> {
+    let chosen = words.iter().filter(|&&it| is_chosen(origins, it));
+    let mut set: BTreeSet<u32> = chosen.map(|&it| plain(it)).collect();
     set.extend((o..nodes).map(|p| word(p, p, 0))); // (3.1)
     loop {
         let known: Vec<(usize, usize, usize)> = set
@@ -49,7 +50,8 @@ pub fn word_by_rules(case: &Case, answer: Answer) -> Option<u32> {
     if nodes > SMALL_NET {
         return None;
     }
-    let set = supported(o, nodes, case.values_of(Field::Words));
+    let origins = case.values_of(Field::Set)[0];
+    let set = supported(o, nodes, case.values_of(Field::Words), origins);
     let holds = |sign| set.contains(&word(number(Field::Node), number(Field::Kind), sign)) as u32;
     Some(holds(0) + 2 * holds(1))
 }

@@ -7,6 +7,7 @@ use lib.Dec.{ltb}
 use lib.ListN.{length, drop, length-replicate}
 use Rattle.theory.specs.Marks.{blank}
 use Rattle.theory.specs.Scans.{Scan, fullScan}
+use Rattle.theory.specs.Origins.{chosen}
 use Rattle.net.specs.Table.{checkNet, badPair}
 use Rattle.net.specs.declared.Refusal.the-variants.{BadQuestion, ShortBuffer}
 use Rattle.net.specs.declared.Checked.{Checked}
@@ -16,31 +17,31 @@ use Rattle.question.specs.Table.{QuestionOutcome, questionOutcome, readAt, ques
 use Rattle.question.specs.declared.Asked.{Asked}
 use Rattle.question.specs.declared.Asked.the-variants as asked
 
-module _ (o k : ℕ) (ws : List ℕ) (x y : ℕ) (m m′ : List ℕ) (e : length m ≡ length m′) where
-  chosen : (n : ℕ) (s : Scan) (bad short : Bool)
+module _ (o k : ℕ) (ws : List ℕ) (set x y : ℕ) (m m′ : List ℕ) (e : length m ≡ length m′) where
+  as-tested : (n : ℕ) (s : Scan) (bad short : Bool)
       → cond bad (questionOutcome (asked.Refused BadQuestion) m) (cond short (questionOutcome (asked.Refused ShortBuffer) m) (readAt y s (drop n m))) .answer
       ≡ cond bad (questionOutcome (asked.Refused BadQuestion) m′) (cond short (questionOutcome (asked.Refused ShortBuffer) m′) (readAt y s (drop n m′))) .answer
-  chosen n s true short = refl
-  chosen n s false true = refl
-  chosen n s false false = refl
+  as-tested n s true short = refl
+  as-tested n s false true = refl
+  as-tested n s false false = refl
 
   -- What a question gives with some marks, by the answer of the check.
   abbrev after : List ℕ → Checked → QuestionOutcome
-  after l = byCheck (λ r. questionOutcome (asked.Refused r) l) o k ws (questionClauses o x y l) (questionDone ws x y l)
+  after l = byCheck (λ r. questionOutcome (asked.Refused r) l) (questionClauses o x y l) (questionDone (chosen set ws) x y l)
 
   same-for : (c : Checked) → after m c .answer ≡ after m′ c .answer
-  same-for (checked.Nodes n) = rw e (chosen n (fullScan n ws x) (badPair o n x y) (ltb (length m′) n))
+  same-for (checked.Nodes n) = rw e (as-tested n (fullScan n (chosen set ws) x) (badPair o n x y) (ltb (length m′) n))
   same-for (checked.Refused r) = refl
 
   -- As many marks, the same answer.
-  pub same-answer : questioned o k ws x y m .answer ≡ questioned o k ws x y m′ .answer
+  pub same-answer : questioned o k ws set x y m .answer ≡ questioned o k ws set x y m′ .answer
   same-answer =
-      ap (λ (q : QuestionOutcome). q .answer) (sym (on-net (λ r. questionOutcome (asked.Refused r) m) o k ws (questionClauses o x y m) (questionDone ws x y m)))
-      ∙ same-for (checkNet o k ws)
-      ∙ ap (λ (q : QuestionOutcome). q .answer) (on-net (λ r. questionOutcome (asked.Refused r) m′) o k ws (questionClauses o x y m′) (questionDone ws x y m′))
+      ap (λ (q : QuestionOutcome). q .answer) (sym (on-net (λ r. questionOutcome (asked.Refused r) m) o k ws set (questionClauses o x y m) (questionDone (chosen set ws) x y m)))
+      ∙ same-for (checkNet o k ws set)
+      ∙ ap (λ (q : QuestionOutcome). q .answer) (on-net (λ r. questionOutcome (asked.Refused r) m′) o k ws set (questionClauses o x y m′) (questionDone (chosen set ws) x y m′))
 
 -- So 1,024 marks answer as blank ones do.
-pub asked-blank : (o k : ℕ) (ws : List ℕ) (x y : ℕ) (m : List ℕ) {r : Asked} {left : List ℕ} → length m ≡ 1024
-    → questionOutcome r left ≡ questioned o k ws x y m → r ≡ questioned o k ws x y (blank 1024) .answer
-asked-blank o k ws x y m e f =
-    ap (λ (q : QuestionOutcome). q .answer) f ∙ same-answer o k ws x y m (blank 1024) (e ∙ sym (length-replicate {A = ℕ} 1024 0))
+pub asked-blank : (o k : ℕ) (ws : List ℕ) (set x y : ℕ) (m : List ℕ) {r : Asked} {left : List ℕ} → length m ≡ 1024
+    → questionOutcome r left ≡ questioned o k ws set x y m → r ≡ questioned o k ws set x y (blank 1024) .answer
+asked-blank o k ws set x y m e f =
+    ap (λ (q : QuestionOutcome). q .answer) f ∙ same-answer o k ws set x y m (blank 1024) (e ∙ sym (length-replicate {A = ℕ} 1024 0))

@@ -16,10 +16,10 @@ use Rattle.netfile_numbers.specs.Bytes.{u16At}
 use Rattle.ask_line.specs.Line.{lineOf}
 use Rattle.ask_net.specs.Lines.{linesOf}
 
-module _ (o k : ℕ) (ws : List ℕ) where
+module _ (o k : ℕ) (ws : List ℕ) (set : ℕ) where
   -- The line of the question at the byte i of a body.
   abbrev lineAt : List ℕ → ℕ → List ℕ
-  lineAt b i = lineOf (u16At b i) (u16At b (i + 2)) (questioned o k ws (u16At b i) (u16At b (i + 2)) (blank 1024) .answer)
+  lineAt b i = lineOf (u16At b i) (u16At b (i + 2)) (questioned o k ws set (u16At b i) (u16At b (i + 2)) (blank 1024) .answer)
 
   further : (b : List ℕ) (i j : ℕ) → u16At (drop i b) j ≡ u16At b (i + j)
   further b i j = simp (getD-drop, ← add-assoc)
@@ -31,22 +31,22 @@ module _ (o k : ℕ) (ws : List ℕ) where
       rw (further b i j, f)
 
   -- One line more.
-  pub lines-more : (j : ℕ) (b : List ℕ) → linesOf o k ws (suc j) b ≡ linesOf o k ws j b ++ lineAt b (j * 4)
+  pub lines-more : (j : ℕ) (b : List ℕ) → linesOf o k ws set (suc j) b ≡ linesOf o k ws set j b ++ lineAt b (j * 4)
   unfolding linesOf
   lines-more zero b = append-nil _
   lines-more (suc j) b =
       let e : 4 + j * 4 ≡ suc j * 4 = omega (arith, suc-mul j 4) in
-      ap (λ (l : List ℕ). lineAt b 0 ++ l) (lines-more j (drop 4 b) ∙ ap (λ (l : List ℕ). linesOf o k ws j (drop 4 b) ++ l) (line-further b 4 (j * 4) ∙ ap (lineAt b) e))
-      ∙ sym (append-assoc (lineAt b 0) (linesOf o k ws j (drop 4 b)) (lineAt b (suc j * 4)))
+      ap (λ (l : List ℕ). lineAt b 0 ++ l) (lines-more j (drop 4 b) ∙ ap (λ (l : List ℕ). linesOf o k ws set j (drop 4 b) ++ l) (line-further b 4 (j * 4) ∙ ap (lineAt b) e))
+      ∙ sym (append-assoc (lineAt b 0) (linesOf o k ws set j (drop 4 b)) (lineAt b (suc j * 4)))
 
   -- One line more, written into what the lines before it leave.
-  pub line-written : (b l : List ℕ) (i : ℕ) {xs ys : List ℕ} {at x y r : ℕ} {a : Asked} → Wrote (linesOf o k ws i b) l xs at → length (linesOf o k ws i b) ≤ length l
-      → x ≡ u16At b (i * 4) → y ≡ u16At b (i * 4 + 2) → a ≡ questioned o k ws x y (blank 1024) .answer
-      → Wrote (lineOf x y a) (rest at xs) ys r → Wrote (linesOf o k ws (i + 1) b) l (rejoined at xs ys) (at + r)
+  pub line-written : (b l : List ℕ) (i : ℕ) {xs ys : List ℕ} {at x y r : ℕ} {a : Asked} → Wrote (linesOf o k ws set i b) l xs at → length (linesOf o k ws set i b) ≤ length l
+      → x ≡ u16At b (i * 4) → y ≡ u16At b (i * 4 + 2) → a ≡ questioned o k ws set x y (blank 1024) .answer
+      → Wrote (lineOf x y a) (rest at xs) ys r → Wrote (linesOf o k ws set (i + 1) b) l (rejoined at xs ys) (at + r)
   line-written b l i {x = x} {y = y} {a = a} w h e f g v =
       let d : lineOf x y a ≡ lineAt b (i * 4) = rw (g, e, f) in
-      rw add-one (wrote-as (ap (λ (t : List ℕ). linesOf o k ws i b ++ t) d ∙ sym (lines-more i b)) (wrote-more w h v))
+      rw add-one (wrote-as (ap (λ (t : List ℕ). linesOf o k ws set i b ++ t) d ∙ sym (lines-more i b)) (wrote-more w h v))
 
   -- All lines written.
-  pub lines-written : (b l : List ℕ) {i n : ℕ} {xs : List ℕ} {at : ℕ} → i ≡ n → Wrote (linesOf o k ws i b) l xs at → Wrote (linesOf o k ws n b) l xs at
-  lines-written b l e w = wrote-as (ap (λ (j : ℕ). linesOf o k ws j b) e) w
+  pub lines-written : (b l : List ℕ) {i n : ℕ} {xs : List ℕ} {at : ℕ} → i ≡ n → Wrote (linesOf o k ws set i b) l xs at → Wrote (linesOf o k ws set n b) l xs at
+  lines-written b l e w = wrote-as (ap (λ (j : ℕ). linesOf o k ws set j b) e) w

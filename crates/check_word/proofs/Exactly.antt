@@ -3,17 +3,18 @@ use Prim.Native.Nat.{ℕ, _+_, _<_, _≤_}
 use mathlib.Core.Path.{_≡_, refl, sym, ap, _∙_}
 use mathlib.Core.Bool.{Bool, true, false, cond, not}
 use mathlib.Core.Logic.{_↔_}
+use native.Mathlib.Omega.{arith}
 use borrow.Author.Tests.{ltb-true, lt-ltb, le-ltb, eqb-false}
 use lib.Dec.{ltb, eqb}
 use Rattle.theory_laws.proofs.Booleans.{contradiction}
 use Rattle.theory.specs.Words.{nodeLimit}
-use Rattle.theory.specs.Nets.{LegalWord}
-use Rattle.net.specs.Legal.{legal, Because, causeOf}
+use Rattle.theory.specs.Origins.{originLimit, LegalFrom}
+use Rattle.net_word.specs.Legal.{legalFrom, Because, causeOf}
+use Rattle.net_word.specs.declared.Cause.{Cause}
+use Rattle.net_word.proofs.Legality.{legal-from-means}
+use Rattle.net_word.proofs.Causes.{one-cause, because-illegal, cause-exactly}
 use Rattle.net.specs.Table.{illegalAt}
-use Rattle.net.specs.declared.Cause.{Cause}
 use Rattle.net.specs.declared.Refusal.the-variants.{TooManyNodes, IllegalWord}
-use Rattle.net.proofs.Legality.{legal-means}
-use Rattle.net.proofs.Causes.{one-cause, because-illegal, cause-exactly}
 use Rattle.check_word.specs.Table.{checkWord, wordReply}
 use Rattle.check_word.specs.declared.WordChecked.{WordChecked}
 use Rattle.check_word.specs.declared.WordChecked.the-variants.{Legal, Refused}
@@ -46,35 +47,35 @@ module _ (o k w : ℕ) where
   -- Number 1 exactly if there are too many nodes.
   pub word-nodes-exactly : (checkWord o k w ≡ Refused TooManyNodes) ↔ (nodeLimit < o + k)
   unfolding told
-  word-nodes-exactly = ((λ e. ltb-true nodeLimit (o + k) (is-many (ltb nodeLimit (o + k)) (legal o (o + k) w) e)), λ h. rw (lt-ltb nodeLimit (o + k) h))
+  word-nodes-exactly = ((λ e. ltb-true nodeLimit (o + k) (is-many (ltb nodeLimit (o + k)) (legalFrom originLimit o (o + k) w) e)), λ h. rw (lt-ltb nodeLimit (o + k) h))
 
   module _ (few : o + k ≤ nodeLimit) where
     -- No cause exactly if the word is legal.
-    pub word-legal-exactly : (checkWord o k w ≡ Legal) ↔ LegalWord o k w
+    pub word-legal-exactly : (checkWord o k w ≡ Legal) ↔ LegalFrom o k w
     unfolding told
     word-legal-exactly = (
-      (λ e. legal-means o k w .0 (is-legal (legal o (o + k) w) (rw (le-ltb nodeLimit (o + k) few) at e))),
-      λ l. rw (le-ltb nodeLimit (o + k) few, legal-means o k w .1 l),
+      (λ e. legal-from-means o k w .0 (is-legal (legalFrom originLimit o (o + k) w) (rw (le-ltb nodeLimit (o + k) few) at e))),
+      λ l. rw (le-ltb nodeLimit (o + k) few, legal-from-means o k w .1 l),
     )
 
-    -- Cause 1 exactly if the tail is no node; cause 2 exactly if it is one and the head no kind.
+    -- Cause 3 exactly if the origin is above 3; else cause 1 exactly if the tail is no node, and cause 2 exactly if it is one and the head no kind.
     pub word-cause-exactly : (c : Cause) → (checkWord o k w ≡ Refused (IllegalWord 0 c)) ↔ Because o k w c
     unfolding told
     word-cause-exactly c = (there, back)
       where
-        illegal : legal o (o + k) w ≡ false → LegalWord o k w → ⊥
-        illegal e l = contradiction (sym e ∙ legal-means o k w .1 l)
+        illegal : legalFrom originLimit o (o + k) w ≡ false → LegalFrom o k w → ⊥
+        illegal e l = contradiction (sym e ∙ legal-from-means o k w .1 l)
 
         there : checkWord o k w ≡ Refused (IllegalWord 0 c) → Because o k w c
         there e =
-            let t = is-cause (legal o (o + k) w) c (rw (le-ltb nodeLimit (o + k) few) at e) in
+            let t = is-cause (legalFrom originLimit o (o + k) w) c (rw (le-ltb nodeLimit (o + k) few) at e) in
             cause-exactly o k w (illegal (t .0)) c .0 (t .1)
 
         back : Because o k w c → checkWord o k w ≡ Refused (IllegalWord 0 c)
         back b =
-            let no : legal o (o + k) w ≡ false = fails (legal o (o + k) w) refl b in
+            let no : legalFrom originLimit o (o + k) w ≡ false = fails (legalFrom originLimit o (o + k) w) refl b in
             rw (le-ltb nodeLimit (o + k) few, no) (ap (λ (d : Cause). Refused (IllegalWord 0 d)) (cause-exactly o k w (because-illegal o k w c b) c .1 b))
           where
-            fails : (q : Bool) → legal o (o + k) w ≡ q → Because o k w c → q ≡ false
-            fails true e b = absurd (because-illegal o k w c b (legal-means o k w .0 e))
+            fails : (q : Bool) → legalFrom originLimit o (o + k) w ≡ q → Because o k w c → q ≡ false
+            fails true e b = absurd (because-illegal o k w c b (legal-from-means o k w .0 e))
             fails false e b = refl

@@ -4,7 +4,8 @@ use mathlib.Core.Path.{_≡_}
 use mathlib.Core.Bool.{true, false}
 use borrow.Author.Tests.{lt-ltb, le-ltb}
 use Rattle.theory.specs.Words.{nodeLimit}
-use Rattle.net.specs.Legal.{legal}
+use Rattle.theory.specs.Origins.{originLimit}
+use Rattle.net_word.specs.Legal.{legalFrom}
 use Rattle.net.specs.Table.{illegalAt}
 use Rattle.net.specs.declared.Refusal.{Refusal}
 use Rattle.net.specs.declared.Refusal.the-variants.{TooManyNodes}
@@ -15,8 +16,8 @@ module _ (o k w : ℕ) where
   pub word-many : nodeLimit < o + k → Refused TooManyNodes ≡ checkWord o k w
   word-many h = rw (lt-ltb nodeLimit (o + k) h)
 
-  pub word-refused : o + k ≤ nodeLimit → legal o (o + k) w ≡ false → {r : Refusal} → r ≡ illegalAt (o + k) 0 w → Refused r ≡ checkWord o k w
+  pub word-refused : o + k ≤ nodeLimit → legalFrom originLimit o (o + k) w ≡ false → {r : Refusal} → r ≡ illegalAt (o + k) 0 w → Refused r ≡ checkWord o k w
   word-refused h l e = rw (le-ltb nodeLimit (o + k) h, l, e)
 
-  pub word-passed : o + k ≤ nodeLimit → legal o (o + k) w ≡ true → Legal ≡ checkWord o k w
+  pub word-passed : o + k ≤ nodeLimit → legalFrom originLimit o (o + k) w ≡ true → Legal ≡ checkWord o k w
   word-passed h l = rw (le-ltb nodeLimit (o + k) h, l)

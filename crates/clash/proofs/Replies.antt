@@ -1,8 +1,6 @@
 -- The reply tells what a clash test answered.
 use mathlib.Core.Path.{_≡_, refl, sym, ap, _∙_}
 use mathlib.Core.Bool.{cond}
-use mathlib.Core.Logic.{inl, inr}
-use native.Mathlib.Omega.{arith}
 use lib.Dec.{eqb}
 use Rattle.net.specs.Table.{Reply}
 use Rattle.net.proofs.Replies.{refusalAt, refusal-at-reply, refusal-not}
@@ -17,7 +15,7 @@ clashedAt r = cond (eqb (r .number) 0) (clashed.At (r .first) (r .second)) (cond
 clashed-at-reply : (r : Clashed) → clashedAt (clashedReply r) ≡ r
 clashed-at-reply (clashed.At x y) = refl
 clashed-at-reply clashed.Nowhere = refl
-clashed-at-reply (clashed.Refused r) = rw (refusal-not r 0 (inl refl), refusal-not r 7 (inr (omega arith)), refusal-at-reply r)
+clashed-at-reply (clashed.Refused r) = rw (refusal-not r 0 refl, refusal-not r 7 refl, refusal-at-reply r)
 
 -- No two answers of a clash test have one reply.
 pub clashed-reply-one-to-one : (r q : Clashed) → clashedReply r ≡ clashedReply q → r ≡ q

@@ -6,6 +6,7 @@ use lib.Dec.{ltb}
 use lib.ListN.{length, getD}
 use Rattle.theory.specs.Marks.{saysYes, saysNo}
 use Rattle.theory.specs.Completion.{fullMarks}
+use Rattle.theory.specs.Origins.{chosen}
 use Rattle.net.specs.Clauses.{Clause, clause, call}
 use Rattle.net.specs.Table.{netClauses, Reply, reply, refusalReply}
 use Rattle.net.specs.declared.Refusal.the-variants.{ShortBuffer}
@@ -58,12 +59,12 @@ clashClauses found m n =
 abbrev pub clashDone : Clashed → List ℕ → ℕ → ClashOutcome
 clashDone found m n = clashOutcome found (cleared n m)
 
-abbrev pub clashTable : ℕ → ℕ → List ℕ → List ℕ → List (Clause ClashOutcome)
-clashTable o k ws m = netClauses (λ r. clashOutcome (clashed.Refused r) m) o k ws (clashClauses (clashSearch o k ws) m (o + k))
+abbrev pub clashTable : ℕ → ℕ → List ℕ → ℕ → List ℕ → List (Clause ClashOutcome)
+clashTable o k ws set m = netClauses (λ r. clashOutcome (clashed.Refused r) m) o k ws set (clashClauses (clashSearch o k (chosen set ws)) m (o + k))
 
--- The clash test of a net.
-abbrev pub clashedBy : ℕ → ℕ → List ℕ → List ℕ → ClashOutcome
-clashedBy o k ws m = call (clashTable o k ws m) (clashDone (clashSearch o k ws) m (o + k))
+-- The clash test of the words that the set chooses.
+abbrev pub clashedBy : ℕ → ℕ → List ℕ → ℕ → List ℕ → ClashOutcome
+clashedBy o k ws set m = call (clashTable o k ws set m) (clashDone (clashSearch o k (chosen set ws)) m (o + k))
 
 -- The paper's number and values for each answer.
 abbrev pub clashedReply : Clashed → Reply

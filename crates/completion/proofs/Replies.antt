@@ -1,8 +1,6 @@
 -- The reply tells what a completion answered.
 use mathlib.Core.Path.{_≡_, refl, sym, ap, _∙_}
 use mathlib.Core.Bool.{cond}
-use mathlib.Core.Logic.{inl, inr}
-use native.Mathlib.Omega.{arith}
 use lib.Dec.{eqb}
 use Rattle.net.specs.Table.{Reply}
 use Rattle.net.proofs.Replies.{refusalAt, refusal-at-reply, refusal-not}
@@ -17,7 +15,7 @@ completedAt r = cond (eqb (r .number) 0) (Done (r .first)) (cond (eqb (r .number
 completed-at-reply : (r : Completed) → completedAt (completedReply r) ≡ r
 completed-at-reply (Done size) = refl
 completed-at-reply (Short needed) = refl
-completed-at-reply (Refused r) = rw (refusal-not r 0 (inl refl), refusal-not r 8 (inr (omega arith)), refusal-at-reply r)
+completed-at-reply (Refused r) = rw (refusal-not r 0 refl, refusal-not r 8 refl, refusal-at-reply r)
 
 -- No two answers have one reply.
 pub completed-reply-one-to-one : (r q : Completed) → completedReply r ≡ completedReply q → r ≡ q

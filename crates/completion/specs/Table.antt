@@ -4,6 +4,7 @@ use mathlib.Core.List.{List, [], _∷_, _++_}
 use lib.Dec.{ltb}
 use lib.ListN.{length, drop}
 use Rattle.theory.specs.Completion.{complete}
+use Rattle.theory.specs.Origins.{chosen}
 use Rattle.net.specs.Clauses.{Clause, clause, call}
 use Rattle.net.specs.Table.{netClauses, Reply, reply, refusalReply}
 use Rattle.net.specs.declared.Refusal.the-variants.{ShortBuffer}
@@ -31,12 +32,12 @@ completionClauses all m l n =
 abbrev pub completionDone : List ℕ → List ℕ → List ℕ → ℕ → CompletionOutcome
 completionDone all m l n = completionOutcome (completed.Done (length all)) (cleared n m) (all ++ drop (length all) l)
 
-abbrev pub completionTable : ℕ → ℕ → List ℕ → List ℕ → List ℕ → List (Clause CompletionOutcome)
-completionTable o k ws m l = netClauses (λ r. completionOutcome (completed.Refused r) m l) o k ws (completionClauses (complete o k ws) m l (o + k))
+abbrev pub completionTable : ℕ → ℕ → List ℕ → ℕ → List ℕ → List ℕ → List (Clause CompletionOutcome)
+completionTable o k ws set m l = netClauses (λ r. completionOutcome (completed.Refused r) m l) o k ws set (completionClauses (complete o k (chosen set ws)) m l (o + k))
 
--- The completion of a net.
-abbrev pub completedBy : ℕ → ℕ → List ℕ → List ℕ → List ℕ → CompletionOutcome
-completedBy o k ws m l = call (completionTable o k ws m l) (completionDone (complete o k ws) m l (o + k))
+-- The completion of the words that the set chooses.
+abbrev pub completedBy : ℕ → ℕ → List ℕ → ℕ → List ℕ → List ℕ → CompletionOutcome
+completedBy o k ws set m l = call (completionTable o k ws set m l) (completionDone (complete o k (chosen set ws)) m l (o + k))
 
 -- The paper's number and value for each answer.
 abbrev pub completedReply : Completed → Reply

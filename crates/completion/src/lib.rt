@@ -1,7 +1,7 @@
 // Completion: every supported word of a net, ascending, into the lent list.
 ghost use mathlib.Core.Path.{_≡_};
 ghost use Prim.Native.Nat.{_+_};
-ghost use Rattle.theory.specs.Nets.{Net};
+ghost use Rattle.theory.specs.Origins.{chosen, NetFrom};
 ghost use Rattle.theory.specs.Completion.{complete};
 ghost use Rattle.completion.specs.Table.{completionOutcome, completionClauses, completionDone, completedBy};
 ghost use Rattle.net.specs.Clauses.{call};
@@ -25,33 +25,41 @@ fn complete_checked(
     k: u32,
     n: usize,
     words: &[u32],
+    set: u32,
     marks: &mut [u8],
     list: &mut [u32],
 ) -> Completed
-    requires net { ⌜ Net o k (now words) ⌝ }
+    requires net { ⌜ NetFrom o k (now words) ⌝ }
     requires size { ⌜ n ≡ o + k ⌝ }
-    ensures { λ r. ⌜ completionOutcome r (now (marks .exit)) (now (list .exit)) ≡ call (completionClauses (complete o k (now (words .entry))) (now (marks .entry)) (now (list .entry)) n) (completionDone (complete o k (now (words .entry))) (now (marks .entry)) (now (list .entry)) n) ⌝ }
+    ensures { λ r. ⌜ completionOutcome r (now (marks .exit)) (now (list .exit)) ≡ call (completionClauses (complete o k (chosen set (now (words .entry)))) (now (marks .entry)) (now (list .entry)) n) (completionDone (complete o k (chosen set (now (words .entry)))) (now (marks .entry)) (now (list .entry)) n) ⌝ }
 {
     if marks.len() < n {
         return Completed::Refused(Refusal::ShortBuffer);
     }
-    let size = count_rows(o, k, n, words, marks);
+    let size = count_rows(o, k, n, words, set, marks);
     if list.len() < size {
         clear(n, marks);
         return Completed::Short(size);
     }
-    write_rows(o, k, n, words, marks, list);
+    write_rows(o, k, n, words, set, marks, list);
     clear(n, marks);
     Completed::Done(size)
 }
 
-// The completion of a net.
-pub fn complete_net(o: u32, k: u32, words: &[u32], marks: &mut [u8], list: &mut [u32]) -> Completed
-    ensures { λ r. ⌜ completionOutcome r (now (marks .exit)) (now (list .exit)) ≡ completedBy o k (now (words .entry)) (now (marks .entry)) (now (list .entry)) ⌝ }
+// The completion of a net: the words it writes are plain.
+pub fn complete_net(
+    o: u32,
+    k: u32,
+    words: &[u32],
+    set: u32,
+    marks: &mut [u8],
+    list: &mut [u32],
+) -> Completed
+    ensures { λ r. ⌜ completionOutcome r (now (marks .exit)) (now (list .exit)) ≡ completedBy o k (now (words .entry)) set (now (marks .entry)) (now (list .entry)) ⌝ }
 {
-    let net = check_net(o, k, words);
+    let net = check_net(o, k, words, set);
     match net {
         Checked::Refused(refusal) => Completed::Refused(refusal),
-        Checked::Nodes(n) => complete_checked(o, k, n, words, marks, list),
+        Checked::Nodes(n) => complete_checked(o, k, n, words, set, marks, list),
     }
 }

@@ -7,10 +7,11 @@ use borrow.Author.Tests.{ltb-true}
 use lib.Dec.{ltb}
 use lib.ListN.{length}
 use Rattle.theory.specs.Nets.{Net}
+use Rattle.theory.specs.Origins.{chosen}
 use Rattle.theory.specs.Completion.{fullMarks, complete}
 use Rattle.theory.proofs.completion.Demand3.{complete-net}
 use Rattle.net.specs.Table.{Reply}
-use Rattle.net.proofs.NetCheck.{check-is-net}
+use Rattle.net.proofs.NetCheck.{chosen-checked}
 use Rattle.net.specs.Clauses.{call}
 use Rattle.scan.specs.Table.{ScanOutcome, scanReply}
 use Rattle.question.specs.Table.{QuestionOutcome, askedReply}
@@ -56,10 +57,10 @@ module _ (o k : ℕ) (ws : List ℕ) where
         either clashGives (ltb (length m) n) (λ _. bare)
         (λ _. either clashGives (nowhere (clashSearch o k ws)) (λ _. bare) (λ _. first-clash-fits 0 (clashNodes o k) (omega (arith, net .few)) (net .few)))
 
-    pub clash-fits : Fits (clashedReply (clashedBy o k ws m .answer))
-    clash-fits =
-        table-fits o k ws clashGives (λ r. clashOutcome (clashed.Refused r) m) (clashClauses (clashSearch o k ws) m) (clashDone (clashSearch o k ws) m) (λ r. refl)
-        (λ n e. clash-net-fits n (check-is-net o k ws n e .1))
+pub clash-fits : (o k : ℕ) (ws : List ℕ) (set : ℕ) (m : List ℕ) → Fits (clashedReply (clashedBy o k ws set m .answer))
+clash-fits o k ws set m =
+    table-fits o k ws set clashGives (λ r. clashOutcome (clashed.Refused r) m) (clashClauses (clashSearch o k (chosen set ws)) m) (clashDone (clashSearch o k (chosen set ws)) m) (λ r. refl)
+    (λ n e. clash-net-fits o k (chosen set ws) m n (chosen-checked o k ws set e .2))
 
 -- ── the completion ──
 
@@ -75,7 +76,7 @@ module _ (o k : ℕ) (ws m l : List ℕ) where
       either completionGives (ltb (length m) n) (λ _. bare)
       (λ _. either completionGives (ltb (length l) (length (complete o k ws))) (λ _. fits low (omega arith)) (λ _. fits low (omega arith)))
 
-  pub completion-fits : Fits (completedReply (completedBy o k ws m l .answer))
-  completion-fits =
-      table-fits o k ws completionGives (λ r. completionOutcome (completed.Refused r) m l) (completionClauses (complete o k ws) m l) (completionDone (complete o k ws) m l) (λ r. refl)
-      (λ n e. completion-net-fits n (check-is-net o k ws n e .1))
+pub completion-fits : (o k : ℕ) (ws : List ℕ) (set : ℕ) (m l : List ℕ) → Fits (completedReply (completedBy o k ws set m l .answer))
+completion-fits o k ws set m l =
+    table-fits o k ws set completionGives (λ r. completionOutcome (completed.Refused r) m l) (completionClauses (complete o k (chosen set ws)) m l) (completionDone (complete o k (chosen set ws)) m l) (λ r. refl)
+    (λ n e. completion-net-fits o k (chosen set ws) m l n (chosen-checked o k ws set e .2))

@@ -1,22 +1,23 @@
-// A link word's parts, the test of one word, and the check of a net: numbers 1, 2 and 3 of the number table, in that order; the tests of number 4 for a statement; the refusals of numbers 1 to 5, and a reply as a struct.
+// The check of a net, with which every operation on one begins: numbers 1, 2, 15 and 3 of the number table, in that order; the check of a plain list: numbers 1 to 3; the tests of number 4 for a statement; the refusals that all operations pass on, and a reply as a struct.
 ghost use mathlib.Core.Path.{_≡_};
-ghost use Rattle.theory.specs.Words.{tailOf, headOf};
-ghost use Rattle.net.specs.Legal.{legal, legalPrefix, causeOf};
-ghost use Rattle.net.specs.Table.{illegalAt, checkNet, badPair, badStatement, reply, causeNumber, refusalReply};
+ghost use Rattle.net_word.specs.Legal.{legalFrom};
+ghost use Rattle.net.specs.Passing.{passing};
+ghost use Rattle.net.specs.Table.{illegalAt, illegalPlain, checkSizes, checkNet, checkPlain, badPair, badStatement, reply, refusalReply};
+use net_word::Cause;
+use net_word::ORIGIN_LIMIT;
+use net_word::cause_number;
+use net_word::cause_of;
+use net_word::is_legal;
+use net_word::plain_cause;
 
-// Why a word is illegal: its tail is outside the net, or else its head is no kind.
-pub enum Cause {
-    Tail,
-    Head,
-}
-
-// The refusals that every operation passes on unchanged: numbers 1 to 5.
+// The refusals that every operation passes on unchanged: numbers 1 to 5 and 15.
 pub enum Refusal {
     TooManyNodes,
     TooManyWords,
     IllegalWord(u32, Cause),
     BadQuestion,
     ShortBuffer,
+    BadSet,
 }
 
 // A reply.
@@ -33,50 +34,12 @@ pub enum Checked {
     Refused(Refusal),
 }
 
-// The largest number of nodes, and of words.
+// The largest number of nodes, of words, and the largest set of origins.
 pub const NODE_LIMIT: usize = 1024;
 
 pub const WORD_LIMIT: usize = 2097152;
 
-// A word's tail.
-pub fn tail_of(word: u32) -> usize
-    ensures { λ r. ⌜ r ≡ tailOf word ⌝ }
-{
-    (word / 2048) as usize
-}
-
-// A word's head.
-pub fn head_of(word: u32) -> usize
-    ensures { λ r. ⌜ r ≡ headOf word ⌝ }
-{
-    (word / 2 % 1024) as usize
-}
-
-// Whether a word is legal in a net of `n` nodes, the first `o` of them objects.
-pub fn is_legal(o: usize, n: usize, word: u32) -> bool
-    ensures { λ r. ⌜ r ≡ legal o n word ⌝ }
-{
-    let tail = tail_of(word);
-    let head = head_of(word);
-    if n <= tail {
-        return false;
-    }
-    if head < o {
-        return false;
-    }
-    head < n
-}
-
-// Why an illegal word is one: the tail is looked at first.
-fn cause_of(n: usize, word: u32) -> Cause
-    ensures { λ r. ⌜ r ≡ causeOf n word ⌝ }
-{
-    let tail = tail_of(word);
-    if n <= tail {
-        return Cause::Tail;
-    }
-    Cause::Head
-}
+pub const SET_LIMIT: u32 = 15;
 
 // The refusal of the word at `index`. That it is illegal is for the caller to know: of a legal one it would say cause 2.
 pub fn refuse_word(n: usize, index: u32, word: u32) -> Refusal
@@ -85,13 +48,20 @@ pub fn refuse_word(n: usize, index: u32, word: u32) -> Refusal
     Refusal::IllegalWord(index, cause_of(n, word))
 }
 
-// How many legal words stand before the first illegal one.
-pub fn first_illegal(o: usize, n: usize, words: &[u32]) -> usize
-    ensures { λ r. ⌜ r ≡ legalPrefix o n (now (words .entry)) ⌝ }
+// The same of a plain word.
+pub fn refuse_plain(n: usize, index: u32, word: u32) -> Refusal
+    ensures { λ r. ⌜ r ≡ illegalPlain n index word ⌝ }
+{
+    Refusal::IllegalWord(index, plain_cause(n, word))
+}
+
+// How many legal words stand before the first illegal one, where `top` is the largest origin: 0 for a plain list.
+pub fn first_illegal(top: u32, o: usize, n: usize, words: &[u32]) -> usize
+    ensures { λ r. ⌜ r ≡ passing (legalFrom top o n) (now (words .entry)) ⌝ }
 {
     let mut i = 0;
     while i < words.len() {
-        if !is_legal(o, n, words[i]) {
+        if !is_legal(top, o, n, words[i]) {
             return i;
         }
         i += 1;
@@ -99,21 +69,49 @@ pub fn first_illegal(o: usize, n: usize, words: &[u32]) -> usize
     i
 }
 
-// The check of a net, with which every operation on one begins.
-pub fn check_net(o: u32, k: u32, words: &[u32]) -> Checked
-    ensures { λ r. ⌜ r ≡ checkNet o k (now (words .entry)) ⌝ }
+// Numbers 1 and 2: how many nodes and words there are.
+fn check_sizes(o: u32, k: u32, count: usize) -> Checked
+    ensures { λ r. ⌜ r ≡ checkSizes o k count ⌝ }
 {
-    let objects = o as usize;
-    let n = objects + k as usize;
+    let n = o as usize + k as usize;
     if NODE_LIMIT < n {
         return Checked::Refused(Refusal::TooManyNodes);
     }
-    if WORD_LIMIT < words.len() {
+    if WORD_LIMIT < count {
         return Checked::Refused(Refusal::TooManyWords);
     }
-    let i = first_illegal(objects, n, words);
+    Checked::Nodes(n)
+}
+
+// The check of a net read with a set of origins. All words are counted and tested, chosen or not.
+pub fn check_net(o: u32, k: u32, words: &[u32], set: u32) -> Checked
+    ensures { λ r. ⌜ r ≡ checkNet o k (now (words .entry)) set ⌝ }
+{
+    let sizes = check_sizes(o, k, words.len());
+    let Checked::Nodes(n) = sizes else {
+        return sizes;
+    };
+    if SET_LIMIT < set {
+        return Checked::Refused(Refusal::BadSet);
+    }
+    let i = first_illegal(ORIGIN_LIMIT, o as usize, n, words);
     if i < words.len() {
         return Checked::Refused(refuse_word(n, i as u32, words[i]));
+    }
+    Checked::Nodes(n)
+}
+
+// The check of a list of plain words.
+pub fn check_plain(o: u32, k: u32, words: &[u32]) -> Checked
+    ensures { λ r. ⌜ r ≡ checkPlain o k (now (words .entry)) ⌝ }
+{
+    let sizes = check_sizes(o, k, words.len());
+    let Checked::Nodes(n) = sizes else {
+        return sizes;
+    };
+    let i = first_illegal(0, o as usize, n, words);
+    if i < words.len() {
+        return Checked::Refused(refuse_plain(n, i as u32, words[i]));
     }
     Checked::Nodes(n)
 }
@@ -154,16 +152,6 @@ pub fn reply_of(number: u32, first: u32, second: u32) -> Reply
     }
 }
 
-// The number of a cause.
-fn cause_number(cause: Cause) -> u32
-    ensures { λ r. ⌜ r ≡ causeNumber cause ⌝ }
-{
-    match cause {
-        Cause::Tail => 1,
-        Cause::Head => 2,
-    }
-}
-
 // The reply of a refusal.
 pub fn refusal_given(refusal: Refusal) -> Reply
     ensures { λ r. ⌜ r ≡ refusalReply refusal ⌝ }
@@ -174,5 +162,6 @@ pub fn refusal_given(refusal: Refusal) -> Reply
         Refusal::IllegalWord(index, cause) => reply_of(3, index, cause_number(cause)),
         Refusal::BadQuestion => reply_of(4, 0, 0),
         Refusal::ShortBuffer => reply_of(5, 0, 0),
+        Refusal::BadSet => reply_of(15, 0, 0),
     }
 }

@@ -5,10 +5,10 @@ use mathlib.Core.Bool.{true, false}
 use mathlib.Core.List.{List}
 use Rattle.net.specs.Clauses.{call}
 use Rattle.netfile.specs.Contents.{contentsOf, noBodies, bodiesOf}
-use Rattle.netfile.specs.Table.{readFrom, malformed, wrongPlace, questionsAt, fileTable, fileDone}
+use Rattle.netfile.specs.Table.{readFrom, malformed, wrongPlace, questionsAt, setAt, fileTable, fileDone}
 use Rattle.netfile.specs.declared.Contents.the-variants.{Bodies, Malformed}
 use Rattle.netfile.specs.Places.{Says}
-use Rattle.netfile.proofs.Places.{ReadsAs, size-wrong, first-wrong, second-wrong, third-wrong, nothing-wrong, reads-as}
+use Rattle.netfile.proofs.Places.{ReadsAs, wrong-at, all-three, all-four, fault-says, right-three, right-four, reads-as}
 
 module _ (s : List ℕ) where
   -- Something is wrong: clause 9 applies.
@@ -21,20 +21,19 @@ module _ (s : List ℕ) where
       rw (applies, place, contents, bodies)
 
   -- Nothing is: the reading is done.
-  no-line : {a e b f c g : ℕ} → Says s (λ A wrong right. right a e b f c g) → readFrom s ≡ call (fileTable s) (fileDone s)
-  no-line {c = c} t =
+  no-line : {a e b f c g d h : ℕ} → Says s (λ A wrong right. right a e b f c g d h) → readFrom s ≡ call (fileTable s) (fileDone s)
+  no-line {c = c} {d = d} t =
       let applies : malformed s ≡ false = t _ _ _ in
-      let start : questionsAt s ≡ c = t _ _ _ in
-      let contents : contentsOf s ≡ Bodies c = t _ _ _ in
-      rw (applies, start, contents)
+      let questions : questionsAt s ≡ c = t _ _ _ in
+      let set : setAt s ≡ d = t _ _ _ in
+      let contents : contentsOf s ≡ Bodies c d = t _ _ _ in
+      rw (applies, questions, set, contents)
 
   -- The file reader.
   pub file-called : readFrom s ≡ call (fileTable s) (fileDone s)
   file-called = at (reads-as s)
     where
       at : ReadsAs s → readFrom s ≡ call (fileTable s) (fileDone s)
-      at (size-wrong h f) = clause-9 f
-      at (first-wrong h x f) = clause-9 f
-      at (second-wrong h x y f) = clause-9 f
-      at (third-wrong h x y t f) = clause-9 f
-      at (nothing-wrong h x y t f) = no-line f
+      at (wrong-at p h) = clause-9 (fault-says s p h)
+      at (all-three h) = no-line (right-three s h)
+      at (all-four h) = no-line (right-four s h)

@@ -20,17 +20,20 @@ readFrom s = fileOutcome (contentsOf s) (bodiesOf s)
 
 -- Whether something is wrong with a file, and the place of what is; 0 where nothing is.
 abbrev pub malformed : List ℕ → Bool
-malformed s = entriesOf (λ place. true) (λ a e b f c g. false) s
+malformed s = entriesOf (λ place. true) (λ a e b f c g d h. false) s
 
 abbrev pub wrongPlace : List ℕ → ℕ
-wrongPlace s = entriesOf (λ place. place) (λ a e b f c g. 0) s
+wrongPlace s = entriesOf (λ place. place) (λ a e b f c g d h. 0) s
 
--- Where the questions start; 0 in a malformed file.
+-- Where the questions start, and where the set starts; 0 in a malformed file.
 abbrev pub questionsAt : List ℕ → ℕ
-questionsAt s = entriesOf (λ place. 0) (λ a e b f c g. c) s
+questionsAt s = entriesOf (λ place. 0) (λ a e b f c g d h. c) s
+
+abbrev pub setAt : List ℕ → ℕ
+setAt s = entriesOf (λ place. 0) (λ a e b f c g d h. d) s
 
 abbrev pub fileTable : List ℕ → List (Clause FileOutcome)
 fileTable s = clause 9 (malformed s) (fileOutcome (Malformed (wrongPlace s)) noBodies) ∷ []
 
 abbrev pub fileDone : List ℕ → FileOutcome
-fileDone s = fileOutcome (Bodies (questionsAt s)) (bodiesOf s)
+fileDone s = fileOutcome (Bodies (questionsAt s) (setAt s)) (bodiesOf s)

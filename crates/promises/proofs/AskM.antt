@@ -3,9 +3,10 @@ use mathlib.Core.Path.{_≡_, refl}
 use lib.ListN.{length}
 use Rattle.theory.specs.Marks.{mark, link, links, command, round}
 use Rattle.theory.specs.Scans.{same, rounds}
-use Rattle.net.specs.Legal.{legalPrefix}
-use Rattle.net.specs.Table.{checkNet}
-use Rattle.netfile_entry.specs.Entries.{entryAt}
+use Rattle.theory.specs.Origins.{chosen}
+use Rattle.net.specs.Passing.{passing}
+use Rattle.net.specs.Table.{checkPlain}
+use Rattle.netfile_entry.specs.Entries.{entries, entryAt}
 use Rattle.netfile.specs.Contents.{entriesOf}
 use Rattle.netfile_numbers.specs.Bytes.{u32s}
 use Rattle.text_field.specs.Decimal.{digits}
@@ -20,5 +21,5 @@ size-72 = refl
 
 -- `ask` prints the five lines.
 pub ask-prints : textOf fileM ≡ printedM
-unfolding textOf netText linesOf lineOf digits entriesOf entryAt u32s checkNet legalPrefix rounds same round command links link mark
+unfolding textOf netText linesOf lineOf digits entriesOf entries entryAt u32s checkPlain chosen passing rounds same round command links link mark
 ask-prints = refl

@@ -9,6 +9,7 @@ use Rattle.theory_laws.proofs.Booleans.{contradiction}
 use Rattle.theory.specs.Words.{signAt}
 use Rattle.theory.specs.Completion.{fullMarks, complete}
 use Rattle.theory.specs.Checks.{passes}
+use Rattle.theory.specs.Origins.{chosen}
 use Rattle.net.specs.Table.{checkNet}
 use Rattle.check_word.specs.Table.{wordTable, checkWord}
 use Rattle.check_word.specs.declared.WordChecked.the-variants.{Legal}
@@ -52,48 +53,48 @@ verdict-done false = refl
 pub word-obeys : (o k w : ℕ) → Obeys wordNumber (wordTable o k w) Legal (checkWord o k w)
 word-obeys o k w = obeys wordNumber _ _ (record { numbered = (refl, (refl, tt)); once = refl; nonzero = refl; zero = λ h. refl }) _ refl
 
-module _ (o k : ℕ) (ws : List ℕ) where
-  -- The check of a net obeys its table: numbers 1 to 3, or 0.
-  pub net-obeys : Obeys checkedNumber (netTable o k ws) (netDone o k) (checkNet o k ws)
+module _ (o k : ℕ) (ws : List ℕ) (set : ℕ) where
+  -- The check of a net obeys its table: numbers 1, 2, 15 and 3, or 0.
+  pub net-obeys : Obeys checkedNumber (netTable o k ws set) (netDone o k) (checkNet o k ws set)
   unfolding checkNet
   net-obeys =
-      obeys checkedNumber _ _ (record { numbered = (refl, (refl, (refl, tt))); once = refl; nonzero = refl; zero = λ h. refl }) _
+      obeys checkedNumber _ _ (record { numbered = (refl, (refl, (refl, (refl, tt)))); once = refl; nonzero = refl; zero = λ h. refl }) _
       refl
 
-  -- The scan: numbers 1 to 6, or 0.
-  pub scan-obeys : (x budget : ℕ) (m : List ℕ) → Obeys scanNumber (scanTable o k ws x budget m) (scanDone ws x budget m (o + k)) (scanned o k ws x budget m)
+  -- The scan: numbers 1, 2, 15, 3 to 6, or 0.
+  pub scan-obeys : (x budget : ℕ) (m : List ℕ) → Obeys scanNumber (scanTable o k ws set x budget m) (scanDone (chosen set ws) x budget m (o + k)) (scanned o k ws set x budget m)
   scan-obeys x budget m =
-      obeys scanNumber _ _ (record { numbered = (refl, (refl, (refl, (refl, (refl, (refl, tt)))))); once = refl; nonzero = refl; zero = λ h. refl }) _
+      obeys scanNumber _ _ (record { numbered = (refl, (refl, (refl, (refl, (refl, (refl, (refl, tt))))))); once = refl; nonzero = refl; zero = λ h. refl }) _
       refl
 
-  -- The question: numbers 1 to 5, or 0; so never 6.
-  pub question-obeys : (x y : ℕ) (m : List ℕ) → Obeys questionNumber (questionTable o k ws x y m) (questionDone ws x y m (o + k)) (questioned o k ws x y m)
+  -- The question: numbers 1, 2, 15, 3 to 5, or 0; so never 6.
+  pub question-obeys : (x y : ℕ) (m : List ℕ) → Obeys questionNumber (questionTable o k ws set x y m) (questionDone (chosen set ws) x y m (o + k)) (questioned o k ws set x y m)
   question-obeys x y m =
-      obeys questionNumber _ _ (record { numbered = (refl, (refl, (refl, (refl, (refl, tt))))); once = refl; nonzero = refl; zero = λ h. refl }) _
+      obeys questionNumber _ _ (record { numbered = (refl, (refl, (refl, (refl, (refl, (refl, tt)))))); once = refl; nonzero = refl; zero = λ h. refl }) _
       refl
 
-  -- The clash test: numbers 1, 2, 3, 5 and 7, or 0.
-  pub clash-obeys : (m : List ℕ) → Obeys clashNumber (clashTable o k ws m) (clashDone (clashSearch o k ws) m (o + k)) (clashedBy o k ws m)
+  -- The clash test: numbers 1, 2, 15, 3, 5 and 7, or 0.
+  pub clash-obeys : (m : List ℕ) → Obeys clashNumber (clashTable o k ws set m) (clashDone (clashSearch o k (chosen set ws)) m (o + k)) (clashedBy o k ws set m)
   clash-obeys m =
-      obeys clashNumber _ _ (record { numbered = (refl, (refl, (refl, (refl, (refl, tt))))); once = refl; nonzero = refl; zero = λ h. clash-found o k ws 0 (clashNodes o k) (h .1 .1 .1 .1 .0) }) _
+      obeys clashNumber _ _ (record { numbered = (refl, (refl, (refl, (refl, (refl, (refl, tt)))))); once = refl; nonzero = refl; zero = λ h. clash-found o k (chosen set ws) 0 (clashNodes o k) (h .1 .1 .1 .1 .1 .0) }) _
       refl
 
-  -- The completion: numbers 1, 2, 3, 5 and 8, or 0.
-  pub completion-obeys : (m l : List ℕ) → Obeys completionNumber (completionTable o k ws m l) (completionDone (complete o k ws) m l (o + k)) (completedBy o k ws m l)
+  -- The completion: numbers 1, 2, 15, 3, 5 and 8, or 0.
+  pub completion-obeys : (m l : List ℕ) → Obeys completionNumber (completionTable o k ws set m l) (completionDone (complete o k (chosen set ws)) m l (o + k)) (completedBy o k ws set m l)
   completion-obeys m l =
-      obeys completionNumber _ _ (record { numbered = (refl, (refl, (refl, (refl, (refl, tt))))); once = refl; nonzero = refl; zero = λ h. refl }) _
+      obeys completionNumber _ _ (record { numbered = (refl, (refl, (refl, (refl, (refl, (refl, tt)))))); once = refl; nonzero = refl; zero = λ h. refl }) _
       refl
 
-  -- The reason: numbers 1 to 5, 7 and 8, or 0.
-  pub reason-obeys : (x y sign : ℕ) (d l : List ℕ) → Obeys reasonNumber (reasonTable o k ws x y sign d l) (reasonDone ws x y sign d l (o + k)) (reasoned o k ws x y sign d l)
+  -- The reason: numbers 1, 2, 15, 3 to 5, 7 and 8, or 0.
+  pub reason-obeys : (x y sign : ℕ) (d l : List ℕ) → Obeys reasonNumber (reasonTable o k ws set x y sign d l) (reasonDone (chosen set ws) x y sign d l (o + k)) (reasoned o k ws set x y sign d l)
   reason-obeys x y sign d l =
-      obeys reasonNumber _ _ (record { numbered = (refl, (refl, (refl, (refl, (refl, (refl, (refl, tt))))))); once = refl; nonzero = refl; zero = λ h. refl }) _
+      obeys reasonNumber _ _ (record { numbered = (refl, (refl, (refl, (refl, (refl, (refl, (refl, (refl, tt)))))))); once = refl; nonzero = refl; zero = λ h. refl }) _
       refl
 
-  -- The reason check: numbers 1 to 4, or 0.
-  pub check-obeys : (x y sign : ℕ) (l : List ℕ) → Obeys verdictNumber (checkTable o k ws x y sign) (checkDone o k ws x y sign l) (verdict o k ws x y sign l)
+  -- The reason check: numbers 1, 2, 15, 3 and 4, or 0.
+  pub check-obeys : (x y sign : ℕ) (l : List ℕ) → Obeys verdictNumber (checkTable o k ws set x y sign) (checkDone o k (chosen set ws) x y sign l) (verdict o k ws set x y sign l)
   check-obeys x y sign l =
-      obeys verdictNumber _ _ (record { numbered = (refl, (refl, (refl, (refl, tt)))); once = refl; nonzero = refl; zero = λ h. verdict-done (passes o k ws x y (signAt sign) l) }) _
+      obeys verdictNumber _ _ (record { numbered = (refl, (refl, (refl, (refl, (refl, tt))))); once = refl; nonzero = refl; zero = λ h. verdict-done (passes o k (chosen set ws) x y (signAt sign) l) }) _
       refl
 
 -- The file reader: 9, or 0.

@@ -14,6 +14,7 @@ use Rattle.theory.specs.Support.{Supported}
 use Rattle.theory.specs.Marks.{T, F, has, saysYes, saysNo, commands, scanStart, markerOf, markerTo, At}
 use Rattle.theory.specs.Scans.{rounds, Count, Runs, ended, spent, scan, fullBudget, fullScan}
 use Rattle.theory.specs.Forward.{forwardScan}
+use Rattle.theory.specs.Origins.{chosen}
 use Rattle.theory.specs.declared.Command.{Command}
 use Rattle.theory.proofs.machine.Budgets.{last-round, count-unique, rounds-run}
 use Rattle.theory.proofs.machine.Bounds.{counted, full-done}
@@ -70,43 +71,44 @@ module _ (o k : ℕ) (ws : List ℕ) where
       let t : Count commands ws (scanStart (o + k) x) count = subst (Count commands ws (scanStart (o + k) x)) e (ended-count commands ws (scanStart (o + k) x) budget d) in
       (t, omega (arith, count-unique commands ws (scanStart (o + k) x) count c t n))
 
-  question-exact : (x y : ℕ) (m : List ℕ) (a : Answer) (count : ℕ) → questioned o k ws x y m .answer ≡ asked.Done a count
-      → (s : Sign) → (says a s ≡ true) ↔ Supported o k (Links ws) x y s
+module _ (o k : ℕ) (ws : List ℕ) (set : ℕ) where
+  question-exact : (x y : ℕ) (m : List ℕ) (a : Answer) (count : ℕ) → questioned o k ws set x y m .answer ≡ asked.Done a count
+      → (s : Sign) → (says a s ≡ true) ↔ Supported o k (Links (chosen set ws)) x y s
   question-exact x y m a count e s =
-      let h = question-answered o k ws x y m a count e in
-      let b = answer-says (getD (fullScan (o + k) ws x .marks) y 0) s in
-      let g = full-exact o k ws (h .net) x y s (h .node) (h .kind) in
+      let h = question-answered o k ws set x y m a count e in
+      let b = answer-says (getD (fullScan (o + k) (chosen set ws) x .marks) y 0) s in
+      let g = full-exact o k (chosen set ws) (h .net) x y s (h .node) (h .kind) in
       ((λ p. g .0 (sym b ∙ (rw (h .word) p))), λ p. rw (h .word) at (b ∙ g .1 p))
 
-  question-rounds : (x y : ℕ) (m : List ℕ) (a : Answer) (count : ℕ) → questioned o k ws x y m .answer ≡ asked.Done a count
-      → Count commands ws (scanStart (o + k) x) count × (count ≤ fullBudget (o + k))
+  question-rounds : (x y : ℕ) (m : List ℕ) (a : Answer) (count : ℕ) → questioned o k ws set x y m .answer ≡ asked.Done a count
+      → Count commands (chosen set ws) (scanStart (o + k) x) count × (count ≤ fullBudget (o + k))
   question-rounds x y m a count e =
-      let h = question-answered o k ws x y m a count e in
-      rounds-of (h .net .legal) x (h .node) (fullBudget (o + k)) count (full-done o k ws (h .net .legal) x (h .node) (fullBudget (o + k)) (omega arith)) (h .counted)
+      let h = question-answered o k ws set x y m a count e in
+      rounds-of o k (chosen set ws) (h .net .legal) x (h .node) (fullBudget (o + k)) count (full-done o k (chosen set ws) (h .net .legal) x (h .node) (fullBudget (o + k)) (omega arith)) (h .counted)
 
 -- Our engine keeps demand 2.
 pub demand-2 : Demand2 ours
 demand-2 = record {
   question = question-exact;
   questionRounds = question-rounds;
-  scan = λ o k ws x budget m count e y h s.
-      let r = scan-ended o k ws x budget m count e in
-      byte-exact (markerOf s) (r .left y (h .high)) (scan-exact o k ws (r .net .legal) x (r .node) budget (r .ended) y h s);
-  scanTo = λ o k ws x budget m count e h z l s.
-      let r = scan-ended o k ws x budget m count e in
-      byte-exact (markerTo s) (r .left z l) (scan-exact-to o k ws (r .net .legal) x (r .node) budget h (r .ended) z s);
-  scanRounds = λ o k ws x budget m count e.
-      let r = scan-ended o k ws x budget m count e in
-      rounds-of o k ws (r .net .legal) x (r .node) budget count (r .ended) (r .counted);
-  scanSpent = λ o k ws x budget m count e y h s p.
-      let r = scan-was-spent o k ws x budget m count e in
-      scan-spent o k ws (r .net .legal) x (r .node) budget (r .ended) y h s (rw (r .left y (h .high)) at p);
-  scanSpentTo = λ o k ws x budget m count e h z l s p.
-      let r = scan-was-spent o k ws x budget m count e in
-      scan-spent-to o k ws (r .net .legal) x (r .node) budget h (r .ended) z s (rw (r .left z l) at p);
-  scanSpentRounds = λ o k ws x budget m count e.
-      let r = scan-was-spent o k ws x budget m count e in
-      subst (SpentRounds commands ws (scanStart (o + k) x) budget) (r .counted) (spent-rounds commands ws (scanStart (o + k) x) budget (r .ended));
+  scan = λ o k ws set x budget m count e y h s.
+      let r = scan-ended o k ws set x budget m count e in
+      byte-exact (markerOf s) (r .left y (h .high)) (scan-exact o k (chosen set ws) (r .net .legal) x (r .node) budget (r .ended) y h s);
+  scanTo = λ o k ws set x budget m count e h z l s.
+      let r = scan-ended o k ws set x budget m count e in
+      byte-exact (markerTo s) (r .left z l) (scan-exact-to o k (chosen set ws) (r .net .legal) x (r .node) budget h (r .ended) z s);
+  scanRounds = λ o k ws set x budget m count e.
+      let r = scan-ended o k ws set x budget m count e in
+      rounds-of o k (chosen set ws) (r .net .legal) x (r .node) budget count (r .ended) (r .counted);
+  scanSpent = λ o k ws set x budget m count e y h s p.
+      let r = scan-was-spent o k ws set x budget m count e in
+      scan-spent o k (chosen set ws) (r .net .legal) x (r .node) budget (r .ended) y h s (rw (r .left y (h .high)) at p);
+  scanSpentTo = λ o k ws set x budget m count e h z l s p.
+      let r = scan-was-spent o k ws set x budget m count e in
+      scan-spent-to o k (chosen set ws) (r .net .legal) x (r .node) budget h (r .ended) z s (rw (r .left z l) at p);
+  scanSpentRounds = λ o k ws set x budget m count e.
+      let r = scan-was-spent o k ws set x budget m count e in
+      subst (SpentRounds commands (chosen set ws) (scanStart (o + k) x) budget) (r .counted) (spent-rounds commands (chosen set ws) (scanStart (o + k) x) budget (r .ended));
 }
 
 -- A budget that was spent lies below the count of the machine.
@@ -118,28 +120,28 @@ spent-below cs ws m budget count c r n = pick (decLt budget c)
     pick (no h) = absurd (r .busy (n .last) (omega (arith, n .number)) (n .quiet))
 
 -- In the words of the demand, of any engine that keeps it: the answer says s exactly if the statement is in the smallest set.
-pub in-smallest : (e : Engine) → Demand2 e → (o k : ℕ) (ws : List ℕ) (x y : ℕ) (m : List ℕ) (a : Answer) (count : ℕ) → e .question o k ws x y m .answer ≡ asked.Done a count
-    → (P : Statements) → Smallest o k (Links ws) P → (s : Sign) → (says a s ≡ true) ↔ P x y s
-in-smallest e d o k ws x y m a count h P p s =
-    let f = d .question o k ws x y m a count h s in
-    let g = smallest-is-supported o k (Links ws) P p x y s in
+pub in-smallest : (e : Engine) → Demand2 e → (o k : ℕ) (ws : List ℕ) (set x y : ℕ) (m : List ℕ) (a : Answer) (count : ℕ) → e .question o k ws set x y m .answer ≡ asked.Done a count
+    → (P : Statements) → Smallest o k (Links (chosen set ws)) P → (s : Sign) → (says a s ≡ true) ↔ P x y s
+in-smallest e d o k ws set x y m a count h P p s =
+    let f = d .question o k ws set x y m a count h s in
+    let g = smallest-is-supported o k (Links (chosen set ws)) P p x y s in
     ((λ u. g .1 (f .0 u)), λ u. f .1 (g .0 u))
 
 -- The two ends agree, of any engine that keeps demand 2: y's mark after the scan from the subject x is x's mark after the scan from the kind y.
-pub ends-agree : (e : Engine) → Demand2 e → (o k : ℕ) (ws : List ℕ) (x y b c : ℕ) (m l : List ℕ) (i j : ℕ) → e .scan o k ws x b m .answer ≡ scanned.Done i
-    → e .scan o k ws y c l .answer ≡ scanned.Done j → x < o + k → Kind o k y → (s : Sign)
-    → At (e .scan o k ws x b m .marks) (markerOf s) y ↔ At (e .scan o k ws y c l .marks) (markerTo s) x
-ends-agree e d o k ws x y b c m l i j p q h g s =
-    let f = d .scan o k ws x b m i p y g s in
-    let t = d .scanTo o k ws y c l j q g x h s in
+pub ends-agree : (e : Engine) → Demand2 e → (o k : ℕ) (ws : List ℕ) (set x y b c : ℕ) (m l : List ℕ) (i j : ℕ) → e .scan o k ws set x b m .answer ≡ scanned.Done i
+    → e .scan o k ws set y c l .answer ≡ scanned.Done j → x < o + k → Kind o k y → (s : Sign)
+    → At (e .scan o k ws set x b m .marks) (markerOf s) y ↔ At (e .scan o k ws set y c l .marks) (markerTo s) x
+ends-agree e d o k ws set x y b c m l i j p q h g s =
+    let f = d .scan o k ws set x b m i p y g s in
+    let t = d .scanTo o k ws set y c l j q g x h s in
     ((λ u. t .1 (f .0 u)), λ u. f .1 (t .0 u))
 
 -- The word that a question gives is the word of document 01, by its forward scan.
-pub word-of-document-01 : (o k : ℕ) (ws : List ℕ) (x y : ℕ) (m : List ℕ) (a : Answer) (count : ℕ) → questioned o k ws x y m .answer ≡ asked.Done a count
-    → forwardWord o k ws x y ≡ a
-word-of-document-01 o k ws x y m a count e =
-    let h = question-answered o k ws x y m a count e in
-    let t = same-word o k ws (h .net .legal) x y (h .node) (h .kind) in
-    let yes-same : saysYes (getD (fullScan (o + k) ws x .marks) y 0) ≡ has T (getD (forwardScan (o + k) ws x (2 * (o + k)) .marks) y 0) = t is in
-    let no-same : saysNo (getD (fullScan (o + k) ws x .marks) y 0) ≡ has F (getD (forwardScan (o + k) ws x (2 * (o + k)) .marks) y 0) = t isnt in
+pub word-of-document-01 : (o k : ℕ) (ws : List ℕ) (set x y : ℕ) (m : List ℕ) (a : Answer) (count : ℕ) → questioned o k ws set x y m .answer ≡ asked.Done a count
+    → forwardWord o k (chosen set ws) x y ≡ a
+word-of-document-01 o k ws set x y m a count e =
+    let h = question-answered o k ws set x y m a count e in
+    let t = same-word o k (chosen set ws) (h .net .legal) x y (h .node) (h .kind) in
+    let yes-same : saysYes (getD (fullScan (o + k) (chosen set ws) x .marks) y 0) ≡ has T (getD (forwardScan (o + k) (chosen set ws) x (2 * (o + k)) .marks) y 0) = t is in
+    let no-same : saysNo (getD (fullScan (o + k) (chosen set ws) x .marks) y 0) ≡ has F (getD (forwardScan (o + k) (chosen set ws) x (2 * (o + k)) .marks) y 0) = t isnt in
     rw (← yes-same, ← no-same) (h .word)

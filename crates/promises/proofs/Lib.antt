@@ -15,6 +15,7 @@ pub mod Reordered
 pub mod NetAnswers
 pub mod Demand3
 pub mod FromKind
+pub mod Origins
 pub mod Uniqueness
 pub mod Readings
 pub mod AskM

@@ -1,4 +1,4 @@
--- Links stand in any order and a repeated word counts once: over two nets with the same words a scan and a question do the same.
+-- Links stand in any order and a repeated word counts once: over two nets of which the same words are chosen a scan and a question do the same.
 -- The completion, the clash test, the reason and the reason check stand in `Reordered`.
 use Prim.Native.Nat.{ℕ, _+_, _<_}
 use mathlib.Core.Path.{_≡_, refl, sym, ap, _∙_}
@@ -9,6 +9,7 @@ use lib.Dec.{ltb}
 use lib.ListN.{length, drop}
 use borrow.Author.Tests.{leb-false}
 use Rattle.theory.specs.Nets.{Net, AllIn}
+use Rattle.theory.specs.Origins.{chosen}
 use Rattle.theory.specs.Marks.{commands, scanStart}
 use Rattle.theory.specs.Scans.{Scan, scan, fullBudget}
 use Rattle.theory.proofs.Inside.{legal-inside}
@@ -24,6 +25,8 @@ use Rattle.net.proofs.OnNet.{gone-on}
 use Rattle.net.proofs.Good.{good-pair}
 use Rattle.question.specs.Table.{QuestionOutcome, questionOutcome, questionClauses, questionDone, questioned, readAt}
 use Rattle.question.specs.declared.Asked.the-variants as asked
+use Rattle.promises.specs.Engines.{Read}
+use Rattle.promises.proofs.Tests.{chosen-of}
 
 -- The same after two tests, where it is the same if the first does not apply.
 pub after-tests : {A : Type 0} (a b : Bool) (u v : A) {r q : A} → (a ≡ false → r ≡ q) → cond a u (cond b v r) ≡ cond a u (cond b v q)
@@ -31,30 +34,34 @@ after-tests true b u v e = refl
 after-tests false true u v e = refl
 after-tests false false u v e = e refl
 
-module _ (o k : ℕ) (ws vs : List ℕ) (n : Net o k ws) (p : Net o k vs) (to : AllIn ws vs) (from : AllIn vs ws) where
-  -- The rounds of a scan.
-  pub rounds-same : (x budget : ℕ) → x < o + k → scan (o + k) ws x budget ≡ scan (o + k) vs x budget
-  rounds-same x budget h =
-      rounds-order (o + k) ws vs (legal-inside o k ws (n .legal)) (legal-inside o k vs (p .legal)) to from commands commands-put-8 budget 0 (scanStart (o + k) x)
-      (omega (arith, start-long (o + k) x h))
+-- The rounds of a scan of plain words.
+pub rounds-same : (o k : ℕ) (ws vs : List ℕ) → Net o k ws → Net o k vs → AllIn ws vs → AllIn vs ws → (x budget : ℕ) → x < o + k → scan (o + k) ws x budget ≡ scan (o + k) vs x budget
+rounds-same o k ws vs n p to from x budget h =
+    rounds-order (o + k) ws vs (legal-inside o k ws (n .legal)) (legal-inside o k vs (p .legal)) to from commands commands-put-8 budget 0 (scanStart (o + k) x)
+    (omega (arith, start-long (o + k) x h))
+
+-- Two nets, each read with its set, of which the same words are chosen.
+module _ (o k : ℕ) (ws : List ℕ) (set : ℕ) (vs : List ℕ) (set′ : ℕ) (n : Read o k ws set) (p : Read o k vs set′) (to : AllIn (chosen set ws) (chosen set′ vs)) (from : AllIn (chosen set′ vs) (chosen set ws)) where
+  same : (x budget : ℕ) → x < o + k → scan (o + k) (chosen set ws) x budget ≡ scan (o + k) (chosen set′ vs) x budget
+  same = rounds-same o k (chosen set ws) (chosen set′ vs) (chosen-of o k ws set n) (chosen-of o k vs set′ p) to from
 
   -- The scan, its count among it.
-  pub scan-order : (x budget : ℕ) (m : List ℕ) → scanned o k ws x budget m ≡ scanned o k vs x budget m
+  pub scan-order : (x budget : ℕ) (m : List ℕ) → scanned o k ws set x budget m ≡ scanned o k vs set′ x budget m
   scan-order x budget m =
       let over-past : Scan → ScanOutcome = λ s. scanEnd (record { done = s .done; count = s .count; marks = s .marks ++ drop (o + k) m }) in
       let refused : Refusal → ScanOutcome = λ r. scanOutcome (answer.Refused r) m in
-      sym (gone-on refused o k ws (scanClauses ws x budget m) (scanDone ws x budget m) (net-is-checked o k ws n) refl)
+      sym (gone-on refused o k ws set (scanClauses (chosen set ws) x budget m) (scanDone (chosen set ws) x budget m) (net-is-checked o k ws set (n .allowed) (n .net)) refl)
       ∙ after-tests (badStart (o + k) x) (ltb (length m) (o + k)) _ _
-      (λ e. sym (scan-end commands ws (scanStart (o + k) x) budget (drop (o + k) m))
-      ∙ ap over-past (rounds-same x budget (leb-false (o + k) x e))
-      ∙ scan-end commands vs (scanStart (o + k) x) budget (drop (o + k) m))
-      ∙ gone-on refused o k vs (scanClauses vs x budget m) (scanDone vs x budget m) (net-is-checked o k vs p) refl
+      (λ e. sym (scan-end commands (chosen set ws) (scanStart (o + k) x) budget (drop (o + k) m))
+      ∙ ap over-past (same x budget (leb-false (o + k) x e))
+      ∙ scan-end commands (chosen set′ vs) (scanStart (o + k) x) budget (drop (o + k) m))
+      ∙ gone-on refused o k vs set′ (scanClauses (chosen set′ vs) x budget m) (scanDone (chosen set′ vs) x budget m) (net-is-checked o k vs set′ (p .allowed) (p .net)) refl
 
   -- The question.
-  pub question-order : (x y : ℕ) (m : List ℕ) → questioned o k ws x y m ≡ questioned o k vs x y m
+  pub question-order : (x y : ℕ) (m : List ℕ) → questioned o k ws set x y m ≡ questioned o k vs set′ x y m
   question-order x y m =
       let refused : Refusal → QuestionOutcome = λ r. questionOutcome (asked.Refused r) m in
-      sym (gone-on refused o k ws (questionClauses o x y m) (questionDone ws x y m) (net-is-checked o k ws n) refl)
+      sym (gone-on refused o k ws set (questionClauses o x y m) (questionDone (chosen set ws) x y m) (net-is-checked o k ws set (n .allowed) (n .net)) refl)
       ∙ after-tests (badPair o (o + k) x y) (ltb (length m) (o + k)) _ _
-      (λ e. ap (λ (s : Scan). readAt y s (drop (o + k) m)) (rounds-same x (fullBudget (o + k)) (good-pair o (o + k) x y .0 e .node)))
-      ∙ gone-on refused o k vs (questionClauses o x y m) (questionDone vs x y m) (net-is-checked o k vs p) refl
+      (λ e. ap (λ (s : Scan). readAt y s (drop (o + k) m)) (same x (fullBudget (o + k)) (good-pair o (o + k) x y .0 e .node)))
+      ∙ gone-on refused o k vs set′ (questionClauses o x y m) (questionDone (chosen set′ vs) x y m) (net-is-checked o k vs set′ (p .allowed) (p .net)) refl

@@ -17,147 +17,157 @@ use Rattle.theory.proofs.Legal.{legal-links}
 use Rattle.theory.proofs.support.Lemma1.{lemma1}
 use Rattle.theory.proofs.reason.Repeats.{strict-shows}
 use Rattle.theory.proofs.reason.Shortest.{shortest-unique}
-use Rattle.net.specs.Legal.{legalPrefix}
+use Rattle.theory.specs.Origins.{chosen}
 use Rattle.net.specs.Good.{GoodPair, GoodStatement}
-use Rattle.net.specs.FirstIllegal.{FirstIllegal}
+use Rattle.net.specs.Passing.{FirstIllegal}
 use Rattle.net.proofs.Good.{good-pair, good-statement, good-kind}
 use Rattle.question.specs.Table.{questioned}
 use Rattle.reason.specs.Table.{reasonOf, reasoned}
 use Rattle.reason_check.specs.Table.{verdict}
 use Rattle.promises.specs.Numbers.{questionNumber, reasonNumber, verdictNumber}
+use Rattle.promises.specs.Engines.{Read}
 use Rattle.promises.specs.Reasoning.{ReasonOf}
 use Rattle.promises.proofs.Demand1.{question-obeys, reason-obeys, check-obeys}
-use Rattle.promises.proofs.Tests.{clause-4-pair, clause-4-statement, clause-5, clause-5-scratch, supported-exactly, clause-7-reason}
-use Rattle.promises.proofs.Plain.{then, and-then, both, first-only, at-least, over-net, past-net, number-1, number-2, number-3}
+use Rattle.promises.proofs.Tests.{clause-4-pair, clause-4-statement, clause-5, clause-5-scratch, first, away-exactly, clause-7-reason}
+use Rattle.promises.proofs.Plain.{then, and-then, both, first-only, at-least, over-net, past-net, number-1, number-2, number-15, number-3}
 use Rattle.promises.proofs.Reasoning.{reason-of}
 
 -- ── the question ──
 
-module _ (o k : ℕ) (ws : List ℕ) (x y : ℕ) (m : List ℕ) where
-  -- 1, 2 and 3 as in every table: too many nodes; too many words; a first illegal word.
-  pub question-1 : (questionNumber (questioned o k ws x y m) ≡ 1) ↔ (1024 < o + k)
-  question-1 = number-1 o k ws (question-obeys o k ws x y m)
+module _ (o k : ℕ) (ws : List ℕ) (set x y : ℕ) (m : List ℕ) where
+  -- 1, 2, 15 and 3 as in every table: too many nodes; too many words; a set above 15; a first illegal word.
+  pub question-1 : (questionNumber (questioned o k ws set x y m) ≡ 1) ↔ (1024 < o + k)
+  question-1 = number-1 o k ws set (question-obeys o k ws set x y m)
 
-  pub question-2 : (questionNumber (questioned o k ws x y m) ≡ 2) ↔ ((o + k ≤ 1024) × (2097152 < length ws))
-  question-2 = number-2 o k ws (question-obeys o k ws x y m)
+  pub question-2 : (questionNumber (questioned o k ws set x y m) ≡ 2) ↔ ((o + k ≤ 1024) × (2097152 < length ws))
+  question-2 = number-2 o k ws set (question-obeys o k ws set x y m)
 
-  pub question-3 : (questionNumber (questioned o k ws x y m) ≡ 3)
-      ↔ ((o + k ≤ 1024) × ((length ws ≤ 2097152) × FirstIllegal o k ws (legalPrefix o (o + k) ws)))
-  question-3 = number-3 o k ws (question-obeys o k ws x y m)
+  pub question-15 : (questionNumber (questioned o k ws set x y m) ≡ 15) ↔ ((o + k ≤ 1024) × ((length ws ≤ 2097152) × (15 < set)))
+  question-15 = number-15 o k ws set (question-obeys o k ws set x y m)
+
+  pub question-3 : (questionNumber (questioned o k ws set x y m) ≡ 3)
+      ↔ ((o + k ≤ 1024) × ((length ws ≤ 2097152) × ((set ≤ 15) × FirstIllegal o k ws (first o k ws))))
+  question-3 = number-3 o k ws set (question-obeys o k ws set x y m)
 
   -- 4: over a net, it is not so that x is a node and y a kind.
-  pub question-4 : (questionNumber (questioned o k ws x y m) ≡ 4) ↔ (Net o k ws × (GoodPair o (o + k) x y → ⊥))
-  question-4 = then (question-obeys o k ws x y m .exactly 4) (past-net o k ws (clause-4-pair o k ws x y))
+  pub question-4 : (questionNumber (questioned o k ws set x y m) ≡ 4) ↔ (Read o k ws set × (GoodPair o (o + k) x y → ⊥))
+  question-4 = then (question-obeys o k ws set x y m .exactly 4) (past-net o k ws set (clause-4-pair o k ws x y))
 
   -- 5: over a net and of a node and a kind, the marks are too short.
-  pub question-5 : (questionNumber (questioned o k ws x y m) ≡ 5) ↔ (Net o k ws × (GoodPair o (o + k) x y × (length m < o + k)))
-  question-5 = then (question-obeys o k ws x y m .exactly 5) (past-net o k ws (both (good-pair o (o + k) x y) (clause-5 o k ws m)))
+  pub question-5 : (questionNumber (questioned o k ws set x y m) ≡ 5) ↔ (Read o k ws set × (GoodPair o (o + k) x y × (length m < o + k)))
+  question-5 = then (question-obeys o k ws set x y m .exactly 5) (past-net o k ws set (both (good-pair o (o + k) x y) (clause-5 o k ws m)))
 
   -- 0: nothing is wrong.
-  pub question-0 : (questionNumber (questioned o k ws x y m) ≡ 0) ↔ (Net o k ws × (GoodPair o (o + k) x y × (o + k ≤ length m)))
+  pub question-0 : (questionNumber (questioned o k ws set x y m) ≡ 0) ↔ (Read o k ws set × (GoodPair o (o + k) x y × (o + k ≤ length m)))
   question-0 =
-      then (question-obeys o k ws x y m .exactly 0)
-      (past-net o k ws (both (good-pair o (o + k) x y) (first-only (at-least (length m) (o + k)))))
+      then (question-obeys o k ws set x y m .exactly 0)
+      (past-net o k ws set (both (good-pair o (o + k) x y) (first-only (at-least (length m) (o + k)))))
 
 -- ── the reason ──
 
-module _ (o k : ℕ) (ws : List ℕ) (x y sign : ℕ) (d l : List ℕ) where
-  -- 1, 2 and 3 as in every table: too many nodes; too many words; a first illegal word.
-  pub reason-1 : (reasonNumber (reasoned o k ws x y sign d l) ≡ 1) ↔ (1024 < o + k)
-  reason-1 = number-1 o k ws (reason-obeys o k ws x y sign d l)
+module _ (o k : ℕ) (ws : List ℕ) (set x y sign : ℕ) (d l : List ℕ) where
+  -- 1, 2, 15 and 3 as in every table: too many nodes; too many words; a set above 15; a first illegal word.
+  pub reason-1 : (reasonNumber (reasoned o k ws set x y sign d l) ≡ 1) ↔ (1024 < o + k)
+  reason-1 = number-1 o k ws set (reason-obeys o k ws set x y sign d l)
 
-  pub reason-2 : (reasonNumber (reasoned o k ws x y sign d l) ≡ 2) ↔ ((o + k ≤ 1024) × (2097152 < length ws))
-  reason-2 = number-2 o k ws (reason-obeys o k ws x y sign d l)
+  pub reason-2 : (reasonNumber (reasoned o k ws set x y sign d l) ≡ 2) ↔ ((o + k ≤ 1024) × (2097152 < length ws))
+  reason-2 = number-2 o k ws set (reason-obeys o k ws set x y sign d l)
 
-  pub reason-3 : (reasonNumber (reasoned o k ws x y sign d l) ≡ 3)
-      ↔ ((o + k ≤ 1024) × ((length ws ≤ 2097152) × FirstIllegal o k ws (legalPrefix o (o + k) ws)))
-  reason-3 = number-3 o k ws (reason-obeys o k ws x y sign d l)
+  pub reason-15 : (reasonNumber (reasoned o k ws set x y sign d l) ≡ 15) ↔ ((o + k ≤ 1024) × ((length ws ≤ 2097152) × (15 < set)))
+  reason-15 = number-15 o k ws set (reason-obeys o k ws set x y sign d l)
+
+  pub reason-3 : (reasonNumber (reasoned o k ws set x y sign d l) ≡ 3)
+      ↔ ((o + k ≤ 1024) × ((length ws ≤ 2097152) × ((set ≤ 15) × FirstIllegal o k ws (first o k ws))))
+  reason-3 = number-3 o k ws set (reason-obeys o k ws set x y sign d l)
 
   -- 4: over a net, it is not so that x is a node, y a kind, and the sign 0 or 1.
-  pub reason-4 : (reasonNumber (reasoned o k ws x y sign d l) ≡ 4) ↔ (Net o k ws × (GoodStatement o (o + k) x y sign → ⊥))
-  reason-4 = then (reason-obeys o k ws x y sign d l .exactly 4) (past-net o k ws (clause-4-statement o k ws x y sign))
+  pub reason-4 : (reasonNumber (reasoned o k ws set x y sign d l) ≡ 4) ↔ (Read o k ws set × (GoodStatement o (o + k) x y sign → ⊥))
+  reason-4 = then (reason-obeys o k ws set x y sign d l .exactly 4) (past-net o k ws set (clause-4-statement o k ws x y sign))
 
   -- 5: over a net and of a good statement, the scratch has less than 2N places.
-  pub reason-5 : (reasonNumber (reasoned o k ws x y sign d l) ≡ 5) ↔ (Net o k ws × (GoodStatement o (o + k) x y sign × (length d < 2 * (o + k))))
-  reason-5 = then (reason-obeys o k ws x y sign d l .exactly 5) (past-net o k ws (both (good-statement o (o + k) x y sign) (clause-5-scratch o k ws d)))
+  pub reason-5 : (reasonNumber (reasoned o k ws set x y sign d l) ≡ 5) ↔ (Read o k ws set × (GoodStatement o (o + k) x y sign × (length d < 2 * (o + k))))
+  reason-5 = then (reason-obeys o k ws set x y sign d l .exactly 5) (past-net o k ws set (both (good-statement o (o + k) x y sign) (clause-5-scratch o k ws d)))
 
   -- The scratch has 2N places.
   room : (ltb (length d) ((o + k) + (o + k)) ≡ false) ↔ (2 * (o + k) ≤ length d)
   room = then (at-least (length d) ((o + k) + (o + k))) ((λ h. omega arith), λ h. omega arith)
 
   -- 7: nothing of that is wrong, and the statement is not supported.
-  pub reason-7 : (reasonNumber (reasoned o k ws x y sign d l) ≡ 7)
-      ↔ (Net o k ws × (GoodStatement o (o + k) x y sign × ((2 * (o + k) ≤ length d) × (Supported o k (Links ws) x y (signAt sign) → ⊥))))
+  pub reason-7 : (reasonNumber (reasoned o k ws set x y sign d l) ≡ 7)
+      ↔ (Read o k ws set × (GoodStatement o (o + k) x y sign × ((2 * (o + k) ≤ length d) × (Supported o k (Links (chosen set ws)) x y (signAt sign) → ⊥))))
   reason-7 =
-      then (reason-obeys o k ws x y sign d l .exactly 7)
-      (over-net o k ws (λ net. and-then (good-statement o (o + k) x y sign)
-      (λ g. both room (clause-7-reason o k ws net x (g .pair .node) y (good-kind (g .pair)) (signAt sign)))))
+      then (reason-obeys o k ws set x y sign d l .exactly 7)
+      (over-net o k ws set (λ net. and-then (good-statement o (o + k) x y sign)
+      (λ g. both room (clause-7-reason o k (chosen set ws) net x (g .pair .node) y (good-kind (g .pair)) (signAt sign)))))
 
-  module _ (net : Net o k ws) (g : GoodStatement o (o + k) x y sign) where
+  module _ (net : Net o k (chosen set ws)) (g : GoodStatement o (o + k) x y sign) where
     -- No second number of places is the shortest reason's.
-    one-size : (a b : ℕ) → ReasonOf o k ws x y sign a → ReasonOf o k ws x y sign b → a ≡ b
+    one-size : (a b : ℕ) → ReasonOf o k (chosen set ws) x y sign a → ReasonOf o k (chosen set ws) x y sign b → a ≡ b
     one-size a b r q =
         let (e, f) =
-        shortest-unique o k (Links ws) (legal-links o k ws (net .legal)) x (g .pair .node) y (good-kind (g .pair)) (signAt sign) (r .xs) (r .ys) (q .xs) (q .ys) (r .shortest)
+        shortest-unique o k (Links (chosen set ws)) (legal-links o k (chosen set ws) (net .legal)) x (g .pair .node) y (good-kind (g .pair)) (signAt sign) (r .xs) (r .ys) (q .xs) (q .ys) (r .shortest)
         (q .shortest) in
         r .long ∙ ap (λ (v : List ℕ). length (written x v (r .ys))) e ∙ ap (λ (v : List ℕ). length (written x (q .xs) v)) f ∙ sym (q .long)
 
     -- What has a reason is supported.
-    shown : (size : ℕ) → ReasonOf o k ws x y sign size → Supported o k (Links ws) x y (signAt sign)
+    shown : (size : ℕ) → ReasonOf o k (chosen set ws) x y sign size → Supported o k (Links (chosen set ws)) x y (signAt sign)
     shown size r =
-        lemma1 o k (Links ws) (legal-links o k ws (net .legal)) x y (signAt sign) .1
-        (r .xs, r .ys, strict-shows o k (Links ws) x y (signAt sign) (r .xs) (r .ys) (good-kind (g .pair)) (r .shortest .path))
+        lemma1 o k (Links (chosen set ws)) (legal-links o k (chosen set ws) (net .legal)) x y (signAt sign) .1
+        (r .xs, r .ys, strict-shows o k (Links (chosen set ws)) x y (signAt sign) (r .xs) (r .ys) (good-kind (g .pair)) (r .shortest .path))
 
     -- Past clause 7 there is a shortest reason, and its places are those of the reason computed.
-    has : (P : ℕ → Type 0) {D : Type 0} → D ↔ P (length (reasonOf ws x y sign (o + k)))
-        → ((eqb (getD (distances (o + k) (signAt sign) ws y) x never) never ≡ false) × D) ↔ ((size : ℕ) × ReasonOf o k ws x y sign size × P size)
+    has : (P : ℕ → Type 0) {D : Type 0} → D ↔ P (length (reasonOf (chosen set ws) x y sign (o + k)))
+        → ((eqb (getD (distances (o + k) (signAt sign) (chosen set ws) y) x never) never ≡ false) × D) ↔ ((size : ℕ) × ReasonOf o k (chosen set ws) x y sign size × P size)
     has P {D} f = (there, back)
       where
-        found : eqb (getD (distances (o + k) (signAt sign) ws y) x never) never ≡ false → ReasonOf o k ws x y sign (length (reasonOf ws x y sign (o + k)))
-        found e = reason-of o k ws x y sign net (g .pair .node) (good-kind (g .pair)) e _ refl .0
+        found : eqb (getD (distances (o + k) (signAt sign) (chosen set ws) y) x never) never ≡ false → ReasonOf o k (chosen set ws) x y sign (length (reasonOf (chosen set ws) x y sign (o + k)))
+        found e = reason-of o k (chosen set ws) x y sign net (g .pair .node) (good-kind (g .pair)) e _ refl .0
 
-        there : (eqb (getD (distances (o + k) (signAt sign) ws y) x never) never ≡ false) × D → ((size : ℕ) × ReasonOf o k ws x y sign size × P size)
-        there p = (length (reasonOf ws x y sign (o + k)), found (p .0), f .0 (p .1))
+        there : (eqb (getD (distances (o + k) (signAt sign) (chosen set ws) y) x never) never ≡ false) × D → ((size : ℕ) × ReasonOf o k (chosen set ws) x y sign size × P size)
+        there p = (length (reasonOf (chosen set ws) x y sign (o + k)), found (p .0), f .0 (p .1))
 
-        back : ((size : ℕ) × ReasonOf o k ws x y sign size × P size) → (eqb (getD (distances (o + k) (signAt sign) ws y) x never) never ≡ false) × D
+        back : ((size : ℕ) × ReasonOf o k (chosen set ws) x y sign size × P size) → (eqb (getD (distances (o + k) (signAt sign) (chosen set ws) y) x never) never ≡ false) × D
         back (size, r, p) =
-            let some = supported-exactly o k ws net x (g .pair .node) y (good-kind (g .pair)) (signAt sign) .1 (shown size r) in
+            let some = away-exactly o k (chosen set ws) net x (g .pair .node) y (good-kind (g .pair)) (signAt sign) .1 (shown size r) in
             (some, f .1 (subst P (one-size size _ r (found some)) p))
 
   -- 8: there is a shortest reason, and as it is written it has more places than the list.
-  pub reason-8 : (reasonNumber (reasoned o k ws x y sign d l) ≡ 8)
-      ↔ (Net o k ws × (GoodStatement o (o + k) x y sign × ((2 * (o + k) ≤ length d) × ((size : ℕ) × ReasonOf o k ws x y sign size × (length l < size)))))
+  pub reason-8 : (reasonNumber (reasoned o k ws set x y sign d l) ≡ 8)
+      ↔ (Read o k ws set × (GoodStatement o (o + k) x y sign × ((2 * (o + k) ≤ length d) × ((size : ℕ) × ReasonOf o k (chosen set ws) x y sign size × (length l < size)))))
   reason-8 =
-      then (reason-obeys o k ws x y sign d l .exactly 8)
-      (over-net o k ws (λ net. and-then (good-statement o (o + k) x y sign)
+      then (reason-obeys o k ws set x y sign d l .exactly 8)
+      (over-net o k ws set (λ net. and-then (good-statement o (o + k) x y sign)
       (λ g. both room (has net g (λ size. length l < size) (ltb-true (length l) _, lt-ltb (length l) _)))))
 
   -- 0: there is one, and it has room.
-  pub reason-0 : (reasonNumber (reasoned o k ws x y sign d l) ≡ 0)
-      ↔ (Net o k ws × (GoodStatement o (o + k) x y sign × ((2 * (o + k) ≤ length d) × ((size : ℕ) × ReasonOf o k ws x y sign size × (size ≤ length l)))))
+  pub reason-0 : (reasonNumber (reasoned o k ws set x y sign d l) ≡ 0)
+      ↔ (Read o k ws set × (GoodStatement o (o + k) x y sign × ((2 * (o + k) ≤ length d) × ((size : ℕ) × ReasonOf o k (chosen set ws) x y sign size × (size ≤ length l)))))
   reason-0 =
-      then (reason-obeys o k ws x y sign d l .exactly 0)
-      (over-net o k ws (λ net. and-then (good-statement o (o + k) x y sign)
+      then (reason-obeys o k ws set x y sign d l .exactly 0)
+      (over-net o k ws set (λ net. and-then (good-statement o (o + k) x y sign)
       (λ g. both room (has net g (λ size. size ≤ length l) (first-only (at-least (length l) _))))))
 
 -- ── the reason check ──
 
-module _ (o k : ℕ) (ws : List ℕ) (x y sign : ℕ) (l : List ℕ) where
-  -- 1, 2 and 3 as in every table: too many nodes; too many words; a first illegal word.
-  pub check-1 : (verdictNumber (verdict o k ws x y sign l) ≡ 1) ↔ (1024 < o + k)
-  check-1 = number-1 o k ws (check-obeys o k ws x y sign l)
+module _ (o k : ℕ) (ws : List ℕ) (set x y sign : ℕ) (l : List ℕ) where
+  -- 1, 2, 15 and 3 as in every table: too many nodes; too many words; a set above 15; a first illegal word.
+  pub check-1 : (verdictNumber (verdict o k ws set x y sign l) ≡ 1) ↔ (1024 < o + k)
+  check-1 = number-1 o k ws set (check-obeys o k ws set x y sign l)
 
-  pub check-2 : (verdictNumber (verdict o k ws x y sign l) ≡ 2) ↔ ((o + k ≤ 1024) × (2097152 < length ws))
-  check-2 = number-2 o k ws (check-obeys o k ws x y sign l)
+  pub check-2 : (verdictNumber (verdict o k ws set x y sign l) ≡ 2) ↔ ((o + k ≤ 1024) × (2097152 < length ws))
+  check-2 = number-2 o k ws set (check-obeys o k ws set x y sign l)
 
-  pub check-3 : (verdictNumber (verdict o k ws x y sign l) ≡ 3)
-      ↔ ((o + k ≤ 1024) × ((length ws ≤ 2097152) × FirstIllegal o k ws (legalPrefix o (o + k) ws)))
-  check-3 = number-3 o k ws (check-obeys o k ws x y sign l)
+  pub check-15 : (verdictNumber (verdict o k ws set x y sign l) ≡ 15) ↔ ((o + k ≤ 1024) × ((length ws ≤ 2097152) × (15 < set)))
+  check-15 = number-15 o k ws set (check-obeys o k ws set x y sign l)
+
+  pub check-3 : (verdictNumber (verdict o k ws set x y sign l) ≡ 3)
+      ↔ ((o + k ≤ 1024) × ((length ws ≤ 2097152) × ((set ≤ 15) × FirstIllegal o k ws (first o k ws))))
+  check-3 = number-3 o k ws set (check-obeys o k ws set x y sign l)
 
   -- 4: over a net, it is not so that x is a node, y a kind, and the sign 0 or 1.
-  pub check-4 : (verdictNumber (verdict o k ws x y sign l) ≡ 4) ↔ (Net o k ws × (GoodStatement o (o + k) x y sign → ⊥))
-  check-4 = then (check-obeys o k ws x y sign l .exactly 4) (past-net o k ws (clause-4-statement o k ws x y sign))
+  pub check-4 : (verdictNumber (verdict o k ws set x y sign l) ≡ 4) ↔ (Read o k ws set × (GoodStatement o (o + k) x y sign → ⊥))
+  check-4 = then (check-obeys o k ws set x y sign l .exactly 4) (past-net o k ws set (clause-4-statement o k ws x y sign))
 
   -- 0: nothing of that is wrong. Which lists hold and which fail is in `Reasoning`.
-  pub check-0 : (verdictNumber (verdict o k ws x y sign l) ≡ 0) ↔ (Net o k ws × GoodStatement o (o + k) x y sign)
-  check-0 = then (check-obeys o k ws x y sign l .exactly 0) (past-net o k ws (first-only (good-statement o (o + k) x y sign)))
+  pub check-0 : (verdictNumber (verdict o k ws set x y sign l) ≡ 0) ↔ (Read o k ws set × GoodStatement o (o + k) x y sign)
+  check-0 = then (check-obeys o k ws set x y sign l .exactly 0) (past-net o k ws set (first-only (good-statement o (o + k) x y sign)))

@@ -8,14 +8,15 @@ use Rattle.theory.specs.Scans.{after, same, rounds}
 use Rattle.theory.specs.Completion.{row, rows, complete}
 use Rattle.theory.specs.Searches.{arcs, level, levels, distances, next, descend, reasonStates, firsts, reasonList}
 use Rattle.theory.proofs.machine.Rounds.{same-eq}
-use Rattle.net.specs.Legal.{legalPrefix}
+use Rattle.theory.specs.Origins.{chosen}
+use Rattle.net.specs.Passing.{passing}
 use Rattle.net.specs.Table.{checkNet}
 use Rattle.clash.specs.Table.{firstBoth, firstClash}
 use Rattle.promises.specs.Readings.{Reading, readings, allAgree}
 
 -- The statements give every reading as the paper has it.
 pub all-agree : allAgree readings ≡ true
-unfolding allAgree same checkNet legalPrefix after firstBoth firstClash rounds round command links link mark complete rows row arcs level levels distances next descend reasonStates firsts reasonList
+unfolding allAgree same checkNet chosen passing after firstBoth firstClash rounds round command links link mark complete rows row arcs level levels distances next descend reasonStates firsts reasonList
 all-agree = refl
 
 -- Where all entries of a table agree, each is an equation.

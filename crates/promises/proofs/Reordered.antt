@@ -1,4 +1,4 @@
--- Links stand in any order and a repeated word counts once, for the operations that are neither a scan nor a question: over two nets with the same words the completion,
+-- Links stand in any order and a repeated word counts once, for the operations that are neither a scan nor a question: over two nets of which the same words are chosen the completion,
 -- the clash test, the reason and the reason check do the same.
 use Prim.Native.Nat.{ℕ, zero, suc, _+_, _*_, _≤_, _<_}
 use mathlib.Core.Path.{_≡_, refl, sym, ap, _∙_}
@@ -12,6 +12,7 @@ use lib.Seq.{ext-getD}
 use Rattle.theory_laws.proofs.Booleans.{same-test}
 use Rattle.theory.specs.Words.{Sign, is, isnt, signNumber, signAt}
 use Rattle.theory.specs.Nets.{Kind, Links, Net, AllIn}
+use Rattle.theory.specs.Origins.{chosen}
 use Rattle.theory.specs.Scans.{Scan, fullBudget}
 use Rattle.theory.specs.Completion.{fullMarks, rows, complete}
 use Rattle.theory.specs.Reasons.{Moves, up, across, down, goal, never}
@@ -35,6 +36,8 @@ use Rattle.reason.specs.Table.{ReasonOutcome, reasonOutcome, filled, reasonOf, 
 use Rattle.reason.specs.declared.Reasoned.the-variants as reasonedAs
 use Rattle.reason_check.specs.Table.{checkClauses, checkDone, verdict}
 use Rattle.reason_check.specs.declared.Verdict.the-variants as verdictAs
+use Rattle.promises.specs.Engines.{Read}
+use Rattle.promises.proofs.Tests.{chosen-of}
 use Rattle.promises.proofs.Orders.{after-tests, rounds-same}
 use Rattle.promises.proofs.Reasoning.{node-of, kind-of, near}
 
@@ -64,27 +67,11 @@ module _ (o k : ℕ) (ws vs : List ℕ) (n : Net o k ws) (p : Net o k vs) (to : 
   unfolding complete
   complete-same = rows-same 0 (o + k) (omega arith)
 
-  -- The completion.
-  pub completion-order : (m l : List ℕ) → completedBy o k ws m l ≡ completedBy o k vs m l
-  completion-order m l =
-      let refused : Refusal → CompletionOutcome = λ r. completionOutcome (completed.Refused r) m l in
-      sym (gone-on refused o k ws (completionClauses (complete o k ws) m l) (completionDone (complete o k ws) m l) (net-is-checked o k ws n) refl)
-      ∙ ap (λ (all : List ℕ). call (completionClauses all m l (o + k)) (completionDone all m l (o + k))) complete-same
-      ∙ gone-on refused o k vs (completionClauses (complete o k vs) m l) (completionDone (complete o k vs) m l) (net-is-checked o k vs p) refl
-
   -- So is the first clash.
   first-same : (x j : ℕ) → x + j ≤ o + k → firstClash o k ws x j ≡ firstClash o k vs x j
   unfolding firstClash
   first-same x zero h = refl
   first-same x (suc j) h = rw (full-same x (omega arith), first-same (suc x) j (omega arith))
-
-  -- The clash test.
-  pub clash-order : (m : List ℕ) → clashedBy o k ws m ≡ clashedBy o k vs m
-  clash-order m =
-      let refused : Refusal → ClashOutcome = λ r. clashOutcome (clashed.Refused r) m in
-      sym (gone-on refused o k ws (clashClauses (clashSearch o k ws) m) (clashDone (clashSearch o k ws) m) (net-is-checked o k ws n) refl)
-      ∙ ap (λ (found : Clashed). call (clashClauses found m (o + k)) (clashDone found m (o + k))) (first-same 0 (clashNodes o k) (omega arith))
-      ∙ gone-on refused o k vs (clashClauses (clashSearch o k vs) m) (clashDone (clashSearch o k vs) m) (net-is-checked o k vs p) refl
 
   module _ (y : ℕ) (kind : Kind o k y) (s : Sign) where
     -- The scratch is the same: each place has one right value.
@@ -128,14 +115,6 @@ module _ (o k : ℕ) (ws vs : List ℕ) (n : Net o k ws) (p : Net o k vs) (to : 
       at true f = rw f
       at false f = rw (states-same y kind (signAt sign) x node (near o k ws x y sign n node kind f))
 
-  -- The reason.
-  pub reason-order : (x y sign : ℕ) (d l : List ℕ) → reasoned o k ws x y sign d l ≡ reasoned o k vs x y sign d l
-  reason-order x y sign d l =
-      let refused : Refusal → ReasonOutcome = λ r. reasonOutcome (reasonedAs.Refused r) d l in
-      sym (gone-on refused o k ws (reasonClauses o ws x y sign d l) (reasonDone ws x y sign d l) (net-is-checked o k ws n) refl)
-      ∙ after-tests (badStatement o (o + k) x y sign) (ltb (length d) ((o + k) + (o + k))) _ _ (searched-same x y sign d l)
-      ∙ gone-on refused o k vs (reasonClauses o vs x y sign d l) (reasonDone vs x y sign d l) (net-is-checked o k vs p) refl
-
   -- The tests of the reason check are the same: of one link, of all steps, of the list.
   listed-same : (x y : ℕ) (s : Sign) → listed x y (signNumber s) ws ≡ listed x y (signNumber s) vs
   listed-same x y s =
@@ -155,9 +134,47 @@ module _ (o k : ℕ) (ws vs : List ℕ) (n : Net o k ws) (p : Net o k vs) (to : 
   passes-same x y s (a ∷ b ∷ []) = refl
   passes-same x y s (a ∷ b ∷ u ∷ l) = rw (steps-same a 0 u l)
 
+-- Two nets, each read with its set, of which the same words are chosen.
+module _ (o k : ℕ) (ws : List ℕ) (set : ℕ) (vs : List ℕ) (set′ : ℕ) (n : Read o k ws set) (p : Read o k vs set′) (to : AllIn (chosen set ws) (chosen set′ vs)) (from : AllIn (chosen set′ vs) (chosen set ws)) where
+  abbrev left : List ℕ
+  left = chosen set ws
+
+  abbrev right : List ℕ
+  right = chosen set′ vs
+
+  ln : Net o k left
+  ln = chosen-of o k ws set n
+
+  rn : Net o k right
+  rn = chosen-of o k vs set′ p
+
+  -- The completion.
+  pub completion-order : (m l : List ℕ) → completedBy o k ws set m l ≡ completedBy o k vs set′ m l
+  completion-order m l =
+      let refused : Refusal → CompletionOutcome = λ r. completionOutcome (completed.Refused r) m l in
+      sym (gone-on refused o k ws set (completionClauses (complete o k left) m l) (completionDone (complete o k left) m l) (net-is-checked o k ws set (n .allowed) (n .net)) refl)
+      ∙ ap (λ (all : List ℕ). call (completionClauses all m l (o + k)) (completionDone all m l (o + k))) (complete-same o k left right ln rn to from)
+      ∙ gone-on refused o k vs set′ (completionClauses (complete o k right) m l) (completionDone (complete o k right) m l) (net-is-checked o k vs set′ (p .allowed) (p .net)) refl
+
+  -- The clash test.
+  pub clash-order : (m : List ℕ) → clashedBy o k ws set m ≡ clashedBy o k vs set′ m
+  clash-order m =
+      let refused : Refusal → ClashOutcome = λ r. clashOutcome (clashed.Refused r) m in
+      sym (gone-on refused o k ws set (clashClauses (clashSearch o k left) m) (clashDone (clashSearch o k left) m) (net-is-checked o k ws set (n .allowed) (n .net)) refl)
+      ∙ ap (λ (found : Clashed). call (clashClauses found m (o + k)) (clashDone found m (o + k))) (first-same o k left right ln rn to from 0 (clashNodes o k) (omega arith))
+      ∙ gone-on refused o k vs set′ (clashClauses (clashSearch o k right) m) (clashDone (clashSearch o k right) m) (net-is-checked o k vs set′ (p .allowed) (p .net)) refl
+
+  -- The reason.
+  pub reason-order : (x y sign : ℕ) (d l : List ℕ) → reasoned o k ws set x y sign d l ≡ reasoned o k vs set′ x y sign d l
+  reason-order x y sign d l =
+      let refused : Refusal → ReasonOutcome = λ r. reasonOutcome (reasonedAs.Refused r) d l in
+      sym (gone-on refused o k ws set (reasonClauses o left x y sign d l) (reasonDone left x y sign d l) (net-is-checked o k ws set (n .allowed) (n .net)) refl)
+      ∙ after-tests (badStatement o (o + k) x y sign) (ltb (length d) ((o + k) + (o + k))) _ _ (searched-same o k left right ln rn to from x y sign d l)
+      ∙ gone-on refused o k vs set′ (reasonClauses o right x y sign d l) (reasonDone right x y sign d l) (net-is-checked o k vs set′ (p .allowed) (p .net)) refl
+
   -- The reason check.
-  pub check-order : (x y sign : ℕ) (l : List ℕ) → verdict o k ws x y sign l ≡ verdict o k vs x y sign l
+  pub check-order : (x y sign : ℕ) (l : List ℕ) → verdict o k ws set x y sign l ≡ verdict o k vs set′ x y sign l
   check-order x y sign l =
-      sym (gone-on verdictAs.Refused o k ws (checkClauses o x y sign) (λ _. checkDone o k ws x y sign l) (net-is-checked o k ws n) refl)
-      ∙ rw (passes-same x y (signAt sign) l)
-      (gone-on verdictAs.Refused o k vs (checkClauses o x y sign) (λ _. checkDone o k vs x y sign l) (net-is-checked o k vs p) refl)
+      sym (gone-on verdictAs.Refused o k ws set (checkClauses o x y sign) (λ _. checkDone o k left x y sign l) (net-is-checked o k ws set (n .allowed) (n .net)) refl)
+      ∙ rw (passes-same o k left right ln rn to from x y (signAt sign) l)
+      (gone-on verdictAs.Refused o k vs set′ (checkClauses o x y sign) (λ _. checkDone o k right x y sign l) (net-is-checked o k vs set′ (p .allowed) (p .net)) refl)

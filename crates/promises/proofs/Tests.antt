@@ -1,7 +1,7 @@
 -- Demand 1, in plain terms: what the test of each clause of the number table says of the call.
 use Prim.Native.Nat.{ℕ, suc, _+_, _*_, _≤_, _<_}
 use mathlib.Core.Path.{_≡_, sym, _∙_}
-use mathlib.Core.Bool.{false, not, _||_}
+use mathlib.Core.Bool.{false, not}
 use mathlib.Core.List.{List}
 use mathlib.Core.Logic.{_↔_, ⊎-elim}
 use native.Mathlib.Omega.{arith}
@@ -10,8 +10,10 @@ use native.Mathlib.Nat.{le-refl}
 use lib.Dec.{eqb, ltb, leb}
 use lib.ListN.{length, getD}
 use borrow.Author.Tests.{ltb-false, le-ltb, leb-false, lt-leb, eqb-false, ne-eqb, not-false}
-use Rattle.theory_laws.proofs.Booleans.{contradiction, or-none-left, or-none-right}
+use Rattle.theory_laws.proofs.Booleans.{contradiction}
 use Rattle.theory.specs.Words.{Sign, nodeLimit, wordLimit}
+use Rattle.theory.specs.Origins.{originLimit, setLimit, chosen}
+use Rattle.theory.proofs.origins.Statements.{chosen-net}
 use Rattle.theory.specs.Nets.{Kind, Links, Net}
 use Rattle.theory.specs.Support.{Supported}
 use Rattle.theory.specs.Scans.{rounds, Count}
@@ -24,14 +26,16 @@ use Rattle.theory.proofs.machine.Budgets.{ends-within, last-round, count-unique
 use Rattle.theory.proofs.reason.Distances.{distances-small}
 use Rattle.theory.proofs.reason.Reason.{reason-exactly}
 use Rattle.theory.proofs.Inside.{at-member}
-use Rattle.net.specs.Legal.{legal, legalPrefix}
-use Rattle.net.proofs.Legality.{legal-means, prefix-legal, prefix-illegal, prefix-is}
-use Rattle.net.proofs.NetCheck.{check-is-net}
+use Rattle.net_word.specs.Legal.{legalFrom}
+use Rattle.net_word.proofs.Legality.{legal-from-means}
+use Rattle.net.specs.Passing.{passing, FirstIllegal}
+use Rattle.net.proofs.Passing.{passing-passes, passing-fails, passing-is}
+use Rattle.net.proofs.NetCheck.{nodes-exactly}
 use Rattle.net.specs.Table.{checkNet, badPair, badStatement}
 use Rattle.net.specs.Good.{GoodPair, GoodStatement}
-use Rattle.net.specs.FirstIllegal.{FirstIllegal}
 use Rattle.net.proofs.Good.{good-pair, good-statement}
 use Rattle.clash.specs.Table.{clashSearch, nowhere}
+use Rattle.promises.specs.Engines.{Read}
 use Rattle.promises.specs.Clashing.{ClashAt}
 use Rattle.promises.proofs.Clashes.{no-clash-exactly}
 
@@ -44,31 +48,43 @@ module _ (o k : ℕ) (ws : List ℕ) where
   pub clause-2 : Decides (ltb wordLimit (length ws)) (2097152 < length ws)
   clause-2 = decides-below wordLimit (length ws)
 
-  stops : legalPrefix o (o + k) ws < length ws → FirstIllegal o k ws (legalPrefix o (o + k) ws)
+  -- The index that clause 3 gives.
+  abbrev pub first : ℕ
+  first = passing (legalFrom originLimit o (o + k)) ws
+
+  stops : first < length ws → FirstIllegal o k ws first
   stops l = record {
     below = l;
-    illegal = λ w. contradiction (sym (prefix-illegal o (o + k) ws l) ∙ legal-means o k _ .1 w);
-    before = λ j h. legal-means o k _ .0 (prefix-legal o (o + k) ws j h);
+    fails = λ w. contradiction (sym (passing-fails (legalFrom originLimit o (o + k)) ws l) ∙ legal-from-means o k _ .1 w);
+    before = λ j h. legal-from-means o k _ .0 (passing-passes (legalFrom originLimit o (o + k)) ws j h);
   }
 
   -- Clause 3: the word at the index given is the first illegal one.
-  pub clause-3 : Decides (ltb (legalPrefix o (o + k) ws) (length ws)) (FirstIllegal o k ws (legalPrefix o (o + k) ws))
-  clause-3 = decides-same _ (decides-below (legalPrefix o (o + k) ws) (length ws)) stops (λ f. f .below)
+  pub clause-3 : Decides (ltb first (length ws)) (FirstIllegal o k ws first)
+  clause-3 = decides-same _ (decides-below first (length ws)) stops (λ f. f .below)
 
-  -- Where none of the three clauses applies the words are a net, and the other way round.
-  pub past-clause-3 : ((ltb nodeLimit (o + k) ≡ false) × (ltb wordLimit (length ws) ≡ false) × (ltb (legalPrefix o (o + k) ws) (length ws) ≡ false)) ↔ Net o k ws
+  -- Clause 15: the set is above 15.
+  pub clause-15 : (set : ℕ) → Decides (ltb setLimit set) (15 < set)
+  clause-15 set = decides-below setLimit set
+
+  -- Where none of the four clauses applies there is a net to be read with the set, and the other way round.
+  pub past-checks : (set : ℕ) → ((ltb nodeLimit (o + k) ≡ false) × (ltb wordLimit (length ws) ≡ false) × (ltb setLimit set ≡ false) × (ltb first (length ws) ≡ false)) ↔ Read o k ws set
   unfolding checkNet
-  past-clause-3 = (there, back)
+  past-checks set = (there, back)
     where
-      there : (ltb nodeLimit (o + k) ≡ false) × (ltb wordLimit (length ws) ≡ false) × (ltb (legalPrefix o (o + k) ws) (length ws) ≡ false) → Net o k ws
-      there h = check-is-net o k ws (o + k) (rw (h .0, h .1, h .2)) .1
+      there : (ltb nodeLimit (o + k) ≡ false) × (ltb wordLimit (length ws) ≡ false) × (ltb setLimit set ≡ false) × (ltb first (length ws) ≡ false) → Read o k ws set
+      there h = let g = nodes-exactly o k ws set (o + k) .0 (rw (h .0, h .1, h .2, h .3)) in record { net = g .2; allowed = g .1 }
 
-      back : Net o k ws → (ltb nodeLimit (o + k) ≡ false) × (ltb wordLimit (length ws) ≡ false) × (ltb (legalPrefix o (o + k) ws) (length ws) ≡ false)
-      back n =
-          let all : legalPrefix o (o + k) ws ≡ length ws =
-          prefix-is o (o + k) ws (length ws) (le-refl (length ws)) (λ l. absurd (omega arith))
-          (λ j l. legal-means o k (getD ws j 0) .1 (n .legal (getD ws j 0) (at-member ws j l))) in
-          (le-ltb nodeLimit (o + k) (n .few), le-ltb wordLimit (length ws) (n .short), le-ltb (legalPrefix o (o + k) ws) (length ws) (omega (arith, all)))
+      back : Read o k ws set → (ltb nodeLimit (o + k) ≡ false) × (ltb wordLimit (length ws) ≡ false) × (ltb setLimit set ≡ false) × (ltb first (length ws) ≡ false)
+      back r =
+          let all : first ≡ length ws =
+          passing-is (legalFrom originLimit o (o + k)) ws (length ws) (le-refl (length ws)) (λ l. absurd (omega arith))
+          (λ j l. legal-from-means o k (getD ws j 0) .1 (r .net .legal (getD ws j 0) (at-member ws j l))) in (
+            le-ltb nodeLimit (o + k) (r .net .few),
+            le-ltb wordLimit (length ws) (r .net .short),
+            le-ltb setLimit set (r .allowed),
+            le-ltb first (length ws) (omega (arith, all)),
+          )
 
   -- Clause 4 of a scan: x is no node.
   pub node-exactly : (x : ℕ) → (leb (o + k) x ≡ false) ↔ (x < o + k)
@@ -119,8 +135,8 @@ module _ (o k : ℕ) (ws : List ℕ) (net : Net o k ws) where
     abbrev away : ℕ
     away = getD (distances (o + k) s ws y) x never
 
-    pub supported-exactly : (eqb away never ≡ false) ↔ Supported o k (Links ws) x y s
-    supported-exactly = (there, λ p. ne-eqb away never (λ e. omega (arith, r .0 p)))
+    pub away-exactly : (eqb away never ≡ false) ↔ Supported o k (Links ws) x y s
+    away-exactly = (there, λ p. ne-eqb away never (λ e. omega (arith, r .0 p)))
       where
         r : Supported o k (Links ws) x y s ↔ (away < never)
         r = reason-exactly o k ws net x node y kind s
@@ -129,7 +145,7 @@ module _ (o k : ℕ) (ws : List ℕ) (net : Net o k ws) where
         there e = ⊎-elim (λ l. r .1 (omega (arith, net .few))) (λ f. absurd (eqb-false away never e f)) (distances-small o k ws net y kind s x)
 
     pub clause-7-reason : Decides (eqb away never) (Supported o k (Links ws) x y s → ⊥)
-    clause-7-reason = decides-not _ supported-exactly
+    clause-7-reason = decides-not _ away-exactly
 
   -- Clause 7 of the clash test: no node clashes.
   pub clause-7-clash : Decides (nowhere (clashSearch o k ws)) ((x y : ℕ) → ClashAt o k ws x y → ⊥)
@@ -138,3 +154,7 @@ module _ (o k : ℕ) (ws : List ℕ) (net : Net o k ws) where
 -- Clause 8: the list is shorter than the result.
 pub clause-8 : (l all : List ℕ) → Decides (ltb (length l) (length all)) (length l < length all)
 clause-8 l all = decides-below (length l) (length all)
+
+-- What a set chooses of a net that is read with it is a net of plain words.
+pub chosen-of : (o k : ℕ) (ws : List ℕ) (set : ℕ) → Read o k ws set → Net o k (chosen set ws)
+chosen-of o k ws set r = chosen-net set o k ws (r .net)

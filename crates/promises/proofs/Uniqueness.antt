@@ -38,41 +38,41 @@ obeys-unique number ls done r q a b = let d = a .exactly (number r) .0 refl in b
 scan-parts : (r q : Scanned) (m l : List ℕ) → scanOutcome r m ≡ scanOutcome q l → (r ≡ q) × (m ≡ l)
 scan-parts r q m l e = (ap (λ (s : ScanOutcome). s .answer) e, ap (λ (s : ScanOutcome). s .marks) e)
 
-module _ (o k : ℕ) (ws : List ℕ) where
+module _ (o k : ℕ) (ws : List ℕ) (set : ℕ) where
   -- The scan: r and q answers, m and l the marks left.
   pub scan-unique : (x budget : ℕ) (marks : List ℕ) (r q : Scanned) (m l : List ℕ)
-      → scanOutcome r m ≡ scanned o k ws x budget marks → scanOutcome q l ≡ scanned o k ws x budget marks → (r ≡ q) × (m ≡ l)
+      → scanOutcome r m ≡ scanned o k ws set x budget marks → scanOutcome q l ≡ scanned o k ws set x budget marks → (r ≡ q) × (m ≡ l)
   scan-unique x budget marks r q m l e f = scan-parts r q m l (both-are (scanOutcome r m) (scanOutcome q l) e f)
 
   -- The question.
   pub question-unique : (x y : ℕ) (marks : List ℕ) (r q : Asked) (m l : List ℕ)
-      → questionOutcome r m ≡ questioned o k ws x y marks → questionOutcome q l ≡ questioned o k ws x y marks → (r ≡ q) × (m ≡ l)
+      → questionOutcome r m ≡ questioned o k ws set x y marks → questionOutcome q l ≡ questioned o k ws set x y marks → (r ≡ q) × (m ≡ l)
   question-unique x y marks r q m l e f =
       let p = both-are (questionOutcome r m) (questionOutcome q l) e f in
       (ap (λ (s : QuestionOutcome). s .answer) p, ap (λ (s : QuestionOutcome). s .marks) p)
 
   -- The clash test.
-  pub clash-unique : (marks : List ℕ) (r q : Clashed) (m l : List ℕ) → clashOutcome r m ≡ clashedBy o k ws marks → clashOutcome q l ≡ clashedBy o k ws marks → (r ≡ q) × (m ≡ l)
+  pub clash-unique : (marks : List ℕ) (r q : Clashed) (m l : List ℕ) → clashOutcome r m ≡ clashedBy o k ws set marks → clashOutcome q l ≡ clashedBy o k ws set marks → (r ≡ q) × (m ≡ l)
   clash-unique marks r q m l e f =
       let p = both-are (clashOutcome r m) (clashOutcome q l) e f in
       (ap (λ (s : ClashOutcome). s .answer) p, ap (λ (s : ClashOutcome). s .marks) p)
 
   -- The completion: m and l the marks, c and d the lists left.
   pub completion-unique : (marks list : List ℕ) (r q : Completed) (m l c d : List ℕ)
-      → completionOutcome r m c ≡ completedBy o k ws marks list → completionOutcome q l d ≡ completedBy o k ws marks list → (r ≡ q) × (m ≡ l) × (c ≡ d)
+      → completionOutcome r m c ≡ completedBy o k ws set marks list → completionOutcome q l d ≡ completedBy o k ws set marks list → (r ≡ q) × (m ≡ l) × (c ≡ d)
   completion-unique marks list r q m l c d e f =
       let p = both-are (completionOutcome r m c) (completionOutcome q l d) e f in
       (ap (λ (s : CompletionOutcome). s .answer) p, ap (λ (s : CompletionOutcome). s .marks) p, ap (λ (s : CompletionOutcome). s .list) p)
 
   -- The reason: m and l the scratches, c and d the lists left.
   pub reason-unique : (x y sign : ℕ) (scratch list : List ℕ) (r q : Reasoned) (m l c d : List ℕ)
-      → reasonOutcome r m c ≡ reasoned o k ws x y sign scratch list → reasonOutcome q l d ≡ reasoned o k ws x y sign scratch list → (r ≡ q) × (m ≡ l) × (c ≡ d)
+      → reasonOutcome r m c ≡ reasoned o k ws set x y sign scratch list → reasonOutcome q l d ≡ reasoned o k ws set x y sign scratch list → (r ≡ q) × (m ≡ l) × (c ≡ d)
   reason-unique x y sign scratch list r q m l c d e f =
       let p = both-are (reasonOutcome r m c) (reasonOutcome q l d) e f in
       (ap (λ (s : ReasonOutcome). s .answer) p, ap (λ (s : ReasonOutcome). s .scratch) p, ap (λ (s : ReasonOutcome). s .list) p)
 
   -- The reason check, which is lent nothing to write to.
-  pub check-unique : (x y sign : ℕ) (list : List ℕ) (r q : Verdict) → r ≡ verdict o k ws x y sign list → q ≡ verdict o k ws x y sign list → r ≡ q
+  pub check-unique : (x y sign : ℕ) (list : List ℕ) (r q : Verdict) → r ≡ verdict o k ws set x y sign list → q ≡ verdict o k ws set x y sign list → r ≡ q
   check-unique x y sign list r q e f = both-are r q e f
 
 -- The test of a word, which is lent nothing.
@@ -80,10 +80,10 @@ pub word-unique : (o k w : ℕ) (r q : WordChecked) → r ≡ checkWord o k w �
 word-unique o k w r q e f = both-are r q e f
 
 -- The check of a net, which is lent nothing to write to either.
-pub net-unique : (o k : ℕ) (ws : List ℕ) (r q : Checked) → r ≡ checkNet o k ws → q ≡ checkNet o k ws → r ≡ q
-net-unique o k ws r q e f = both-are r q e f
+pub net-unique : (o k : ℕ) (ws : List ℕ) (set : ℕ) (r q : Checked) → r ≡ checkNet o k ws set → q ≡ checkNet o k ws set → r ≡ q
+net-unique o k ws set r q e f = both-are r q e f
 
--- The reader of a file: the contents, and the bytes of the three bodies.
+-- The reader of a file: the contents, and the bytes of the four bodies.
 pub contents-unique : (file : List ℕ) (r q : Contents) → r ≡ contentsOf file → q ≡ contentsOf file → r ≡ q
 contents-unique file r q e f = both-are r q e f
 

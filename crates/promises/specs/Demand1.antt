@@ -8,6 +8,7 @@ use Rattle.check_word.specs.declared.WordChecked.the-variants.{Legal}
 use Rattle.scan.specs.Table.{scanTable, scanDone}
 use Rattle.question.specs.Table.{questionTable, questionDone}
 use Rattle.theory.specs.Completion.{complete}
+use Rattle.theory.specs.Origins.{chosen}
 use Rattle.clash.specs.Table.{clashSearch, clashTable, clashDone}
 use Rattle.completion.specs.Table.{completionTable, completionDone}
 use Rattle.reason.specs.Table.{reasonTable, reasonDone}
@@ -17,15 +18,16 @@ use Rattle.promises.specs.Engines.{Engine}
 
 pub record Demand1 (e : Engine) : Type 0 where
   pub wordCheck : (o k w : ℕ) → Obeys wordNumber (wordTable o k w) Legal (e .wordCheck o k w)
-  pub netCheck : (o k : ℕ) (ws : List ℕ) → Obeys checkedNumber (netTable o k ws) (netDone o k) (e .netCheck o k ws)
-  pub scan : (o k : ℕ) (ws : List ℕ) (x budget : ℕ) (m : List ℕ)
-      → Obeys scanNumber (scanTable o k ws x budget m) (scanDone ws x budget m (o + k)) (e .scan o k ws x budget m)
-  pub question : (o k : ℕ) (ws : List ℕ) (x y : ℕ) (m : List ℕ)
-      → Obeys questionNumber (questionTable o k ws x y m) (questionDone ws x y m (o + k)) (e .question o k ws x y m)
-  pub clashTest : (o k : ℕ) (ws m : List ℕ) → Obeys clashNumber (clashTable o k ws m) (clashDone (clashSearch o k ws) m (o + k)) (e .clashTest o k ws m)
-  pub completion : (o k : ℕ) (ws m l : List ℕ)
-      → Obeys completionNumber (completionTable o k ws m l) (completionDone (complete o k ws) m l (o + k)) (e .completion o k ws m l)
-  pub reason : (o k : ℕ) (ws : List ℕ) (x y sign : ℕ) (d l : List ℕ)
-      → Obeys reasonNumber (reasonTable o k ws x y sign d l) (reasonDone ws x y sign d l (o + k)) (e .reason o k ws x y sign d l)
-  pub reasonCheck : (o k : ℕ) (ws : List ℕ) (x y sign : ℕ) (l : List ℕ)
-      → Obeys verdictNumber (checkTable o k ws x y sign) (checkDone o k ws x y sign l) (e .reasonCheck o k ws x y sign l)
+  pub netCheck : (o k : ℕ) (ws : List ℕ) (set : ℕ) → Obeys checkedNumber (netTable o k ws set) (netDone o k) (e .netCheck o k ws set)
+  pub scan : (o k : ℕ) (ws : List ℕ) (set x budget : ℕ) (m : List ℕ)
+      → Obeys scanNumber (scanTable o k ws set x budget m) (scanDone (chosen set ws) x budget m (o + k)) (e .scan o k ws set x budget m)
+  pub question : (o k : ℕ) (ws : List ℕ) (set x y : ℕ) (m : List ℕ)
+      → Obeys questionNumber (questionTable o k ws set x y m) (questionDone (chosen set ws) x y m (o + k)) (e .question o k ws set x y m)
+  pub clashTest : (o k : ℕ) (ws : List ℕ) (set : ℕ) (m : List ℕ)
+      → Obeys clashNumber (clashTable o k ws set m) (clashDone (clashSearch o k (chosen set ws)) m (o + k)) (e .clashTest o k ws set m)
+  pub completion : (o k : ℕ) (ws : List ℕ) (set : ℕ) (m l : List ℕ)
+      → Obeys completionNumber (completionTable o k ws set m l) (completionDone (complete o k (chosen set ws)) m l (o + k)) (e .completion o k ws set m l)
+  pub reason : (o k : ℕ) (ws : List ℕ) (set x y sign : ℕ) (d l : List ℕ)
+      → Obeys reasonNumber (reasonTable o k ws set x y sign d l) (reasonDone (chosen set ws) x y sign d l (o + k)) (e .reason o k ws set x y sign d l)
+  pub reasonCheck : (o k : ℕ) (ws : List ℕ) (set x y sign : ℕ) (l : List ℕ)
+      → Obeys verdictNumber (checkTable o k ws set x y sign) (checkDone o k (chosen set ws) x y sign l) (e .reasonCheck o k ws set x y sign l)

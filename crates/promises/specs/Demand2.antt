@@ -10,6 +10,7 @@ use Rattle.theory.specs.Nets.{Statements, Kind, Links}
 use Rattle.theory.specs.Support.{Supported, Closed}
 use Rattle.theory.specs.Marks.{At, markerOf, markerTo, commands, scanStart}
 use Rattle.theory.specs.Scans.{after, Count, fullBudget}
+use Rattle.theory.specs.Origins.{chosen}
 use Rattle.theory.specs.declared.Command.{Command}
 use Rattle.scan.specs.declared.Scanned.the-variants as scanned
 use Rattle.question.specs.declared.Answer.{Answer}
@@ -38,23 +39,23 @@ pub record SpentRounds (cs : List Command) (ws m : List ℕ) (budget count : ℕ
 
 pub record Demand2 (e : Engine) : Type 0 where
   -- The question: yes exactly if x → y is supported, no exactly if x ↛ y is; its rounds are those of the scan from x, within the question's budget.
-  pub question : (o k : ℕ) (ws : List ℕ) (x y : ℕ) (m : List ℕ) (a : Answer) (count : ℕ) → e .question o k ws x y m .answer ≡ asked.Done a count
-      → (s : Sign) → (says a s ≡ true) ↔ Supported o k (Links ws) x y s
-  pub questionRounds : (o k : ℕ) (ws : List ℕ) (x y : ℕ) (m : List ℕ) (a : Answer) (count : ℕ) → e .question o k ws x y m .answer ≡ asked.Done a count
-      → Count commands ws (scanStart (o + k) x) count × (count ≤ fullBudget (o + k))
+  pub question : (o k : ℕ) (ws : List ℕ) (set x y : ℕ) (m : List ℕ) (a : Answer) (count : ℕ) → e .question o k ws set x y m .answer ≡ asked.Done a count
+      → (s : Sign) → (says a s ≡ true) ↔ Supported o k (Links (chosen set ws)) x y s
+  pub questionRounds : (o k : ℕ) (ws : List ℕ) (set x y : ℕ) (m : List ℕ) (a : Answer) (count : ℕ) → e .question o k ws set x y m .answer ≡ asked.Done a count
+      → Count commands (chosen set ws) (scanStart (o + k) x) count × (count ≤ fullBudget (o + k))
   -- The scan from x, object or kind, read at a kind y: U exactly if x → y is supported, F exactly if x ↛ y is.
-  pub scan : (o k : ℕ) (ws : List ℕ) (x budget : ℕ) (m : List ℕ) (count : ℕ) → e .scan o k ws x budget m .answer ≡ scanned.Done count
-      → (y : ℕ) → Kind o k y → (s : Sign) → At (e .scan o k ws x budget m .marks) (markerOf s) y ↔ Supported o k (Links ws) x y s
+  pub scan : (o k : ℕ) (ws : List ℕ) (set x budget : ℕ) (m : List ℕ) (count : ℕ) → e .scan o k ws set x budget m .answer ≡ scanned.Done count
+      → (y : ℕ) → Kind o k y → (s : Sign) → At (e .scan o k ws set x budget m .marks) (markerOf s) y ↔ Supported o k (Links (chosen set ws)) x y s
   -- From a kind x, read at any node z: T exactly if z → x is supported, F exactly if z ↛ x is.
-  pub scanTo : (o k : ℕ) (ws : List ℕ) (x budget : ℕ) (m : List ℕ) (count : ℕ) → e .scan o k ws x budget m .answer ≡ scanned.Done count
-      → Kind o k x → (z : ℕ) → z < o + k → (s : Sign) → At (e .scan o k ws x budget m .marks) (markerTo s) z ↔ Supported o k (Links ws) z x s
+  pub scanTo : (o k : ℕ) (ws : List ℕ) (set x budget : ℕ) (m : List ℕ) (count : ℕ) → e .scan o k ws set x budget m .answer ≡ scanned.Done count
+      → Kind o k x → (z : ℕ) → z < o + k → (s : Sign) → At (e .scan o k ws set x budget m .marks) (markerTo s) z ↔ Supported o k (Links (chosen set ws)) z x s
   -- Its rounds, at most 3N − 1.
-  pub scanRounds : (o k : ℕ) (ws : List ℕ) (x budget : ℕ) (m : List ℕ) (count : ℕ) → e .scan o k ws x budget m .answer ≡ scanned.Done count
-      → Count commands ws (scanStart (o + k) x) count × (count ≤ 3 * (o + k) - 1)
+  pub scanRounds : (o k : ℕ) (ws : List ℕ) (set x budget : ℕ) (m : List ℕ) (count : ℕ) → e .scan o k ws set x budget m .answer ≡ scanned.Done count
+      → Count commands (chosen set ws) (scanStart (o + k) x) count × (count ≤ 3 * (o + k) - 1)
   -- Where the budget is spent none of these marks is wrong, and there was no quiet round.
-  pub scanSpent : (o k : ℕ) (ws : List ℕ) (x budget : ℕ) (m : List ℕ) (count : ℕ) → e .scan o k ws x budget m .answer ≡ scanned.Spent count
-      → (y : ℕ) → Kind o k y → (s : Sign) → At (e .scan o k ws x budget m .marks) (markerOf s) y → Supported o k (Links ws) x y s
-  pub scanSpentTo : (o k : ℕ) (ws : List ℕ) (x budget : ℕ) (m : List ℕ) (count : ℕ) → e .scan o k ws x budget m .answer ≡ scanned.Spent count
-      → Kind o k x → (z : ℕ) → z < o + k → (s : Sign) → At (e .scan o k ws x budget m .marks) (markerTo s) z → Supported o k (Links ws) z x s
-  pub scanSpentRounds : (o k : ℕ) (ws : List ℕ) (x budget : ℕ) (m : List ℕ) (count : ℕ) → e .scan o k ws x budget m .answer ≡ scanned.Spent count
-      → SpentRounds commands ws (scanStart (o + k) x) budget count
+  pub scanSpent : (o k : ℕ) (ws : List ℕ) (set x budget : ℕ) (m : List ℕ) (count : ℕ) → e .scan o k ws set x budget m .answer ≡ scanned.Spent count
+      → (y : ℕ) → Kind o k y → (s : Sign) → At (e .scan o k ws set x budget m .marks) (markerOf s) y → Supported o k (Links (chosen set ws)) x y s
+  pub scanSpentTo : (o k : ℕ) (ws : List ℕ) (set x budget : ℕ) (m : List ℕ) (count : ℕ) → e .scan o k ws set x budget m .answer ≡ scanned.Spent count
+      → Kind o k x → (z : ℕ) → z < o + k → (s : Sign) → At (e .scan o k ws set x budget m .marks) (markerTo s) z → Supported o k (Links (chosen set ws)) z x s
+  pub scanSpentRounds : (o k : ℕ) (ws : List ℕ) (set x budget : ℕ) (m : List ℕ) (count : ℕ) → e .scan o k ws set x budget m .answer ≡ scanned.Spent count
+      → SpentRounds commands (chosen set ws) (scanStart (o + k) x) budget count

@@ -1,10 +1,12 @@
 -- An engine: what it answers and leaves for each call. The promises are stated of any engine; ours is the one that the operations' statements describe.
-use Prim.Native.Nat.{ℕ, _+_}
-use mathlib.Core.Bool.{cond}
+use Prim.Native.Nat.{ℕ, _+_, _≤_}
+use mathlib.Core.Path.{_≡_}
+use mathlib.Core.Bool.{true, cond}
 use mathlib.Core.List.{List, [], _∷_, _++_}
 use lib.Dec.{ltb}
 use lib.ListN.{length, drop}
 use Rattle.theory.specs.Scans.{Scan}
+use Rattle.theory.specs.Origins.{setLimit, among, chosen, NetFrom}
 use Rattle.net.specs.Clauses.{clause, call}
 use Rattle.net.specs.Table.{checkNet, netClauses}
 use Rattle.net.specs.declared.Refusal.the-variants.{BadQuestion, ShortBuffer}
@@ -20,16 +22,26 @@ use Rattle.reason.specs.Table.{ReasonOutcome, reasoned}
 use Rattle.reason_check.specs.Table.{verdict}
 use Rattle.reason_check.specs.declared.Verdict.{Verdict}
 
--- The eight operations, the test of a word first, each over objects, kinds, words, what is asked, and the lent buffers as they are at entry.
+-- The eight operations, the test of a word first, each over objects, kinds, words, a set of origins, what is asked, and the lent buffers as they are at entry.
 pub record Engine : Type 0 where
   pub wordCheck : ℕ → ℕ → ℕ → WordChecked
-  pub netCheck : ℕ → ℕ → List ℕ → Checked
-  pub scan : ℕ → ℕ → List ℕ → ℕ → ℕ → List ℕ → ScanOutcome
-  pub question : ℕ → ℕ → List ℕ → ℕ → ℕ → List ℕ → QuestionOutcome
-  pub clashTest : ℕ → ℕ → List ℕ → List ℕ → ClashOutcome
-  pub completion : ℕ → ℕ → List ℕ → List ℕ → List ℕ → CompletionOutcome
-  pub reason : ℕ → ℕ → List ℕ → ℕ → ℕ → ℕ → List ℕ → List ℕ → ReasonOutcome
-  pub reasonCheck : ℕ → ℕ → List ℕ → ℕ → ℕ → ℕ → List ℕ → Verdict
+  pub netCheck : ℕ → ℕ → List ℕ → ℕ → Checked
+  pub scan : ℕ → ℕ → List ℕ → ℕ → ℕ → ℕ → List ℕ → ScanOutcome
+  pub question : ℕ → ℕ → List ℕ → ℕ → ℕ → ℕ → List ℕ → QuestionOutcome
+  pub clashTest : ℕ → ℕ → List ℕ → ℕ → List ℕ → ClashOutcome
+  pub completion : ℕ → ℕ → List ℕ → ℕ → List ℕ → List ℕ → CompletionOutcome
+  pub reason : ℕ → ℕ → List ℕ → ℕ → ℕ → ℕ → ℕ → List ℕ → List ℕ → ReasonOutcome
+  pub reasonCheck : ℕ → ℕ → List ℕ → ℕ → ℕ → ℕ → ℕ → List ℕ → Verdict
+
+-- A net whose words have origins, and a set of origins to read it with.
+pub record Read (o k : ℕ) (ws : List ℕ) (set : ℕ) : Type 0 where
+  pub net : NetFrom o k ws
+  pub allowed : set ≤ setLimit
+
+-- A set with which plain words are read: it has origin 0.
+pub record HasZero (set : ℕ) : Type 0 where
+  pub allowed : set ≤ setLimit
+  pub zero : among set 0 ≡ true
 
 -- The engine of the operations' own statements.
 abbrev pub ours : Engine
@@ -48,18 +60,18 @@ ours = record {
 abbrev ran : Scan → List ℕ → ScanOutcome
 ran s past = scanOutcome (cond (s .done) (answer.Done (s .count)) (answer.Spent (s .count))) (s .marks ++ past)
 
--- The scan of another machine, with the right refusals: `run` gets the nodes, the words, the start and the budget.
-abbrev pub scannedBy : (ℕ → List ℕ → ℕ → ℕ → Scan) → ℕ → ℕ → List ℕ → ℕ → ℕ → List ℕ → ScanOutcome
-scannedBy run o k ws x budget m =
+-- The scan of another machine, with the right refusals: `run` gets the nodes, the chosen words, the start and the budget.
+abbrev pub scannedBy : (ℕ → List ℕ → ℕ → ℕ → Scan) → ℕ → ℕ → List ℕ → ℕ → ℕ → ℕ → List ℕ → ScanOutcome
+scannedBy run o k ws set x budget m =
     call
-    (netClauses (λ r. scanOutcome (answer.Refused r) m) o k ws
+    (netClauses (λ r. scanOutcome (answer.Refused r) m) o k ws set
     (clause 4 (badStart (o + k) x) (scanOutcome (answer.Refused BadQuestion) m)
     ∷ clause 5 (ltb (length m) (o + k)) (scanOutcome (answer.Refused ShortBuffer) m)
     ∷ []))
-    (ran (run (o + k) ws x budget) (drop (o + k) m))
+    (ran (run (o + k) (chosen set ws) x budget) (drop (o + k) m))
 
 -- Our engine with another scan, question or completion.
-abbrev pub withScan : (ℕ → ℕ → List ℕ → ℕ → ℕ → List ℕ → ScanOutcome) → Engine
+abbrev pub withScan : (ℕ → ℕ → List ℕ → ℕ → ℕ → ℕ → List ℕ → ScanOutcome) → Engine
 withScan f = record {
   wordCheck = ours .wordCheck;
   netCheck = ours .netCheck;
@@ -71,7 +83,7 @@ withScan f = record {
   reasonCheck = ours .reasonCheck;
 }
 
-abbrev pub withQuestion : (ℕ → ℕ → List ℕ → ℕ → ℕ → List ℕ → QuestionOutcome) → Engine
+abbrev pub withQuestion : (ℕ → ℕ → List ℕ → ℕ → ℕ → ℕ → List ℕ → QuestionOutcome) → Engine
 withQuestion f = record {
   wordCheck = ours .wordCheck;
   netCheck = ours .netCheck;
@@ -83,7 +95,7 @@ withQuestion f = record {
   reasonCheck = ours .reasonCheck;
 }
 
-abbrev pub withCompletion : (ℕ → ℕ → List ℕ → List ℕ → List ℕ → CompletionOutcome) → Engine
+abbrev pub withCompletion : (ℕ → ℕ → List ℕ → ℕ → List ℕ → List ℕ → CompletionOutcome) → Engine
 withCompletion f = record {
   wordCheck = ours .wordCheck;
   netCheck = ours .netCheck;

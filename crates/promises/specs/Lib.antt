@@ -8,6 +8,7 @@ pub mod Forward
 pub mod Reasoning
 pub mod Demand3
 pub mod FromKind
+pub mod Origins
 pub mod Readings
 pub mod AskM
 pub mod Worthless

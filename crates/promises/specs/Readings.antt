@@ -57,15 +57,15 @@ lent n = replicate n 255
 -- The readings of scans and of a question, in the order of the paper, as [8] takes them.
 abbrev pub scanReadings : List Reading
 scanReadings =
-    reading (scans (scanned 2 4 M 0 5 (lent 7))) (0 ∷ 5 ∷ 0 ∷ 7 ∷ 5 ∷ 2 ∷ 4 ∷ 2 ∷ 2 ∷ 2 ∷ 255 ∷ [])
-    ∷ reading (scans (scanned 2 4 M 0 4 (lent 7))) (6 ∷ 4 ∷ 0 ∷ 7 ∷ 5 ∷ 2 ∷ 4 ∷ 2 ∷ 2 ∷ 2 ∷ 255 ∷ [])
-    ∷ reading (scans (scanned 2 4 M 0 1 (lent 7))) (6 ∷ 1 ∷ 0 ∷ 7 ∷ 5 ∷ 0 ∷ 4 ∷ 2 ∷ 0 ∷ 0 ∷ 255 ∷ [])
-    ∷ reading (scans (scanned 2 4 M 4 17 (lent 7))) (0 ∷ 3 ∷ 0 ∷ 7 ∷ 2 ∷ 1 ∷ 2 ∷ 4 ∷ 5 ∷ 1 ∷ 255 ∷ [])
-    ∷ reading (scans (scanned 1 2 (2 ∷ 3 ∷ []) 0 8 (lent 4))) (0 ∷ 2 ∷ 0 ∷ 4 ∷ 7 ∷ 6 ∷ 0 ∷ 255 ∷ [])
-    ∷ reading (answered (questioned 1 2 (2 ∷ 3 ∷ []) 0 2 (lent 4))) (0 ∷ 0 ∷ 2 ∷ 4 ∷ 7 ∷ 6 ∷ 0 ∷ 255 ∷ [])
-    ∷ reading (scans (scanned 0 3 (3 ∷ 2053 ∷ []) 0 8 (lent 4))) (0 ∷ 2 ∷ 0 ∷ 4 ∷ 5 ∷ 2 ∷ 0 ∷ 255 ∷ [])
-    ∷ reading (scans (scanned 0 1 (1 ∷ []) 0 2 (lent 2))) (0 ∷ 2 ∷ 0 ∷ 2 ∷ 7 ∷ 255 ∷ [])
-    ∷ reading (scans (scanned 0 1 [] 0 2 (lent 2))) (0 ∷ 1 ∷ 0 ∷ 2 ∷ 5 ∷ 255 ∷ [])
+    reading (scans (scanned 2 4 M 15 0 5 (lent 7))) (0 ∷ 5 ∷ 0 ∷ 7 ∷ 5 ∷ 2 ∷ 4 ∷ 2 ∷ 2 ∷ 2 ∷ 255 ∷ [])
+    ∷ reading (scans (scanned 2 4 M 15 0 4 (lent 7))) (6 ∷ 4 ∷ 0 ∷ 7 ∷ 5 ∷ 2 ∷ 4 ∷ 2 ∷ 2 ∷ 2 ∷ 255 ∷ [])
+    ∷ reading (scans (scanned 2 4 M 15 0 1 (lent 7))) (6 ∷ 1 ∷ 0 ∷ 7 ∷ 5 ∷ 0 ∷ 4 ∷ 2 ∷ 0 ∷ 0 ∷ 255 ∷ [])
+    ∷ reading (scans (scanned 2 4 M 15 4 17 (lent 7))) (0 ∷ 3 ∷ 0 ∷ 7 ∷ 2 ∷ 1 ∷ 2 ∷ 4 ∷ 5 ∷ 1 ∷ 255 ∷ [])
+    ∷ reading (scans (scanned 1 2 (2 ∷ 3 ∷ []) 15 0 8 (lent 4))) (0 ∷ 2 ∷ 0 ∷ 4 ∷ 7 ∷ 6 ∷ 0 ∷ 255 ∷ [])
+    ∷ reading (answered (questioned 1 2 (2 ∷ 3 ∷ []) 15 0 2 (lent 4))) (0 ∷ 0 ∷ 2 ∷ 4 ∷ 7 ∷ 6 ∷ 0 ∷ 255 ∷ [])
+    ∷ reading (scans (scanned 0 3 (3 ∷ 2053 ∷ []) 15 0 8 (lent 4))) (0 ∷ 2 ∷ 0 ∷ 4 ∷ 5 ∷ 2 ∷ 0 ∷ 255 ∷ [])
+    ∷ reading (scans (scanned 0 1 (1 ∷ []) 15 0 2 (lent 2))) (0 ∷ 2 ∷ 0 ∷ 2 ∷ 7 ∷ 255 ∷ [])
+    ∷ reading (scans (scanned 0 1 [] 15 0 2 (lent 2))) (0 ∷ 1 ∷ 0 ∷ 2 ∷ 5 ∷ 255 ∷ [])
     ∷ []
 
 -- Net M completed.
@@ -81,12 +81,12 @@ scratchM = 4 ∷ 65535 ∷ 3 ∷ 65535 ∷ 65535 ∷ 65535 ∷ 65535 ∷ 65535 �
 abbrev pub otherReadings : List Reading
 otherReadings =
     reading (noes (downscan 6 M 4 17 .marks)) (0 ∷ 0 ∷ 0 ∷ 0 ∷ 0 ∷ 0 ∷ [])
-    ∷ reading (reasons (reasoned 2 4 M 0 5 1 (lent 13) (lent 8))) (0 ∷ 7 ∷ 0 ∷ 13 ∷ (scratchM ++ (255 ∷ 8 ∷ 2 ∷ 3 ∷ 0 ∷ 2 ∷ 3 ∷ 4 ∷ 5 ∷ 255 ∷ [])))
-    ∷ reading (reasons (reasoned 2 4 M 0 5 1 (lent 13) (lent 6))) (8 ∷ 7 ∷ 0 ∷ 13 ∷ (scratchM ++ (255 ∷ 6 ∷ 255 ∷ 255 ∷ 255 ∷ 255 ∷ 255 ∷ 255 ∷ [])))
-    ∷ reading (completes (completedBy 2 4 M (lent 7) (lent 22))) (0 ∷ 21 ∷ 0 ∷ 7 ∷ 0 ∷ 0 ∷ 0 ∷ 0 ∷ 0 ∷ 0 ∷ 255 ∷ 22 ∷ (completedM ++ (255 ∷ [])))
-    ∷ reading (clashes (clashedBy 1 2 (2 ∷ 3 ∷ []) (lent 4))) (0 ∷ 0 ∷ 1 ∷ 4 ∷ 0 ∷ 0 ∷ 0 ∷ 255 ∷ [])
-    ∷ reading (completes (completedBy 0 1 (1 ∷ []) (lent 2) (lent 3))) (0 ∷ 2 ∷ 0 ∷ 2 ∷ 0 ∷ 255 ∷ 3 ∷ 0 ∷ 1 ∷ 255 ∷ [])
-    ∷ reading (completes (completedBy 0 1 [] (lent 2) (lent 2))) (0 ∷ 1 ∷ 0 ∷ 2 ∷ 0 ∷ 255 ∷ 2 ∷ 0 ∷ 255 ∷ [])
+    ∷ reading (reasons (reasoned 2 4 M 15 0 5 1 (lent 13) (lent 8))) (0 ∷ 7 ∷ 0 ∷ 13 ∷ (scratchM ++ (255 ∷ 8 ∷ 2 ∷ 3 ∷ 0 ∷ 2 ∷ 3 ∷ 4 ∷ 5 ∷ 255 ∷ [])))
+    ∷ reading (reasons (reasoned 2 4 M 15 0 5 1 (lent 13) (lent 6))) (8 ∷ 7 ∷ 0 ∷ 13 ∷ (scratchM ++ (255 ∷ 6 ∷ 255 ∷ 255 ∷ 255 ∷ 255 ∷ 255 ∷ 255 ∷ [])))
+    ∷ reading (completes (completedBy 2 4 M 15 (lent 7) (lent 22))) (0 ∷ 21 ∷ 0 ∷ 7 ∷ 0 ∷ 0 ∷ 0 ∷ 0 ∷ 0 ∷ 0 ∷ 255 ∷ 22 ∷ (completedM ++ (255 ∷ [])))
+    ∷ reading (clashes (clashedBy 1 2 (2 ∷ 3 ∷ []) 15 (lent 4))) (0 ∷ 0 ∷ 1 ∷ 4 ∷ 0 ∷ 0 ∷ 0 ∷ 255 ∷ [])
+    ∷ reading (completes (completedBy 0 1 (1 ∷ []) 15 (lent 2) (lent 3))) (0 ∷ 2 ∷ 0 ∷ 2 ∷ 0 ∷ 255 ∷ 3 ∷ 0 ∷ 1 ∷ 255 ∷ [])
+    ∷ reading (completes (completedBy 0 1 [] 15 (lent 2) (lent 2))) (0 ∷ 1 ∷ 0 ∷ 2 ∷ 0 ∷ 255 ∷ 2 ∷ 0 ∷ 255 ∷ [])
     ∷ []
 
 -- All of them.

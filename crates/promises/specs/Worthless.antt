@@ -5,6 +5,7 @@ use mathlib.Core.List.{List, [], _∷_, _++_}
 use lib.ListN.{drop}
 use Rattle.theory.specs.Marks.{link, round, commands, scanStart}
 use Rattle.theory.specs.Scans.{same, Scan, fullBudget}
+use Rattle.theory.specs.Origins.{chosen}
 use Rattle.theory.specs.declared.Command.{Command}
 use Rattle.net.specs.declared.Refusal.{Refusal}
 use Rattle.net.specs.declared.Checked.the-variants as checked
@@ -30,13 +31,13 @@ use Rattle.promises.specs.Engines.{Engine, ours, scannedBy, withScan, wi
 abbrev pub refuser : Refusal → Engine
 refuser r = record {
   wordCheck = λ o k w. wordChecked.Refused r;
-  netCheck = λ o k ws. checked.Refused r;
-  scan = λ o k ws x budget m. scanOutcome (scanned.Refused r) m;
-  question = λ o k ws x y m. questionOutcome (asked.Refused r) m;
-  clashTest = λ o k ws m. clashOutcome (clashed.Refused r) m;
-  completion = λ o k ws m l. completionOutcome (completed.Refused r) m l;
-  reason = λ o k ws x y sign d l. reasonOutcome (reasonedAs.Refused r) d l;
-  reasonCheck = λ o k ws x y sign l. verdictAs.Refused r;
+  netCheck = λ o k ws set. checked.Refused r;
+  scan = λ o k ws set x budget m. scanOutcome (scanned.Refused r) m;
+  question = λ o k ws set x y m. questionOutcome (asked.Refused r) m;
+  clashTest = λ o k ws set m. clashOutcome (clashed.Refused r) m;
+  completion = λ o k ws set m l. completionOutcome (completed.Refused r) m l;
+  reason = λ o k ws set x y sign d l. reasonOutcome (reasonedAs.Refused r) d l;
+  reasonCheck = λ o k ws set x y sign l. verdictAs.Refused r;
 }
 
 -- An answer turned into none.
@@ -46,24 +47,24 @@ silenced (asked.Refused r) = asked.Refused r
 
 -- One that answers none to every question, with the right rounds, marks and refusals.
 abbrev pub denier : Engine
-denier = withQuestion (λ o k ws x y m. questionOutcome (silenced (questioned o k ws x y m .answer)) (questioned o k ws x y m .marks))
+denier = withQuestion (λ o k ws set x y m. questionOutcome (silenced (questioned o k ws set x y m .answer)) (questioned o k ws set x y m .marks))
 
--- The net as its own completion, with the right refusals.
-abbrev pub ownCompletion : ℕ → ℕ → List ℕ → List ℕ → List ℕ → CompletionOutcome
-ownCompletion o k ws m l =
-    call (netClauses (λ r. completionOutcome (completed.Refused r) m l) o k ws (completionClauses ws m l (o + k))) (completionDone ws m l (o + k))
+-- The chosen words as their own completion, with the right refusals.
+abbrev pub ownCompletion : ℕ → ℕ → List ℕ → ℕ → List ℕ → List ℕ → CompletionOutcome
+ownCompletion o k ws set m l =
+    call (netClauses (λ r. completionOutcome (completed.Refused r) m l) o k ws set (completionClauses (chosen set ws) m l (o + k))) (completionDone (chosen set ws) m l (o + k))
 
 -- One that returns it.
 abbrev pub copier : Engine
 copier = withCompletion ownCompletion
 
 -- A scan that runs the first round and reports an invented count, with the right refusals, and the right outcome of a budget that is spent.
-abbrev pub oneRound : (ℕ → ℕ → List ℕ → ℕ → ℕ → List ℕ → ℕ) → ℕ → ℕ → List ℕ → ℕ → ℕ → List ℕ → ScanOutcome
-oneRound invented o k ws x budget m =
-    call (scanTable o k ws x budget m) (scanOutcome (scanned.Done (invented o k ws x budget m)) (round commands ws (scanStart (o + k) x) ++ drop (o + k) m))
+abbrev pub oneRound : (ℕ → ℕ → List ℕ → ℕ → ℕ → ℕ → List ℕ → ℕ) → ℕ → ℕ → List ℕ → ℕ → ℕ → ℕ → List ℕ → ScanOutcome
+oneRound invented o k ws set x budget m =
+    call (scanTable o k ws set x budget m) (scanOutcome (scanned.Done (invented o k ws set x budget m)) (round commands (chosen set ws) (scanStart (o + k) x) ++ drop (o + k) m))
 
 -- One that does so.
-abbrev pub inventor : (ℕ → ℕ → List ℕ → ℕ → ℕ → List ℕ → ℕ) → Engine
+abbrev pub inventor : (ℕ → ℕ → List ℕ → ℕ → ℕ → ℕ → List ℕ → ℕ) → Engine
 inventor invented = withScan (oneRound invented)
 
 -- All links, each tested against the marks that the links before it left, and not against those at the command's beginning.
@@ -94,7 +95,7 @@ hasty = record {
   wordCheck = ours .wordCheck;
   netCheck = ours .netCheck;
   scan = scannedBy hastyScan;
-  question = λ o k ws x y m. call (questionTable o k ws x y m) (readAt y (hastyScan (o + k) ws x (fullBudget (o + k))) (drop (o + k) m));
+  question = λ o k ws set x y m. call (questionTable o k ws set x y m) (readAt y (hastyScan (o + k) (chosen set ws) x (fullBudget (o + k))) (drop (o + k) m));
   clashTest = ours .clashTest;
   completion = ours .completion;
   reason = ours .reason;

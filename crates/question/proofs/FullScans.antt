@@ -10,8 +10,8 @@ use lib.Seq.{take-at, drop-at, length-front, length-take-le}
 use Rattle.theory.specs.Nets.{Net}
 use Rattle.theory.specs.Marks.{commands, scanStart}
 use Rattle.theory.specs.Scans.{fullBudget, fullScan}
-use Rattle.theory.specs.Inside.{Inside}
-use Rattle.theory.proofs.Inside.{legal-inside}
+use Rattle.theory.specs.Origins.{NetFrom, InsideFrom}
+use Rattle.theory.proofs.origins.Statements.{inside-from}
 use Rattle.theory.proofs.machine.Bounds.{scan-long}
 use Rattle.net.specs.Clauses.{call}
 use Rattle.scan.proofs.Outcomes.{scanEnd, scan-end}
@@ -20,8 +20,8 @@ use Rattle.scan.specs.declared.Scanned.{Scanned}
 use Rattle.scan.specs.declared.Scanned.the-variants.{Done, Spent, Refused}
 
 -- What the loop over links asks of a net.
-pub net-inside : (o k n : ℕ) (ws : List ℕ) → n ≡ o + k → Net o k ws → Inside n ws × (n ≤ 1024)
-net-inside o k n ws e h = (rw e (legal-inside o k ws (h .legal)), rw e (h .few))
+pub net-inside : (o k n : ℕ) (ws : List ℕ) → n ≡ o + k → NetFrom o k ws → InsideFrom n ws × (n ≤ 1024)
+net-inside o k n ws e h = (rw e (inside-from o k ws h), rw e (h .few))
 
 -- The count that an answer carries.
 abbrev pub countOf : Scanned → ℕ

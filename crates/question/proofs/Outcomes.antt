@@ -6,21 +6,14 @@ use mathlib.Core.List.{List, _++_}
 use borrow.Author.Tests.{lt-ltb, le-ltb}
 use lib.ListN.{length, getD, take, drop, take-append-drop}
 use lib.Seq.{getD-take}
-use Rattle.theory.specs.Nets.{Net}
 use Rattle.theory.specs.Scans.{fullScan}
 use Rattle.net.specs.Clauses.{call}
-use Rattle.net.specs.Table.{checkNet, badPair}
+use Rattle.net.specs.Table.{badPair}
 use Rattle.net.specs.declared.Refusal.the-variants.{BadQuestion, ShortBuffer}
-use Rattle.net.specs.declared.Checked.the-variants as checked
-use Rattle.net.proofs.NetCheck.{check-is-net}
 use Rattle.net.proofs.Good.{good-pair}
 use Rattle.question.specs.Table.{answerAt, questionOutcome, questionClauses, questionDone}
 use Rattle.question.specs.declared.Answer.{Answer}
 use Rattle.question.specs.declared.Asked.the-variants as asked
-
--- What the check of a net hands on.
-pub checked-net : (o k : ℕ) (ws : List ℕ) (n : ℕ) → checkNet o k ws ≡ checked.Nodes n → Net o k ws × (n ≡ o + k)
-checked-net o k ws n e = let t = check-is-net o k ws n e in (t .1, t .0)
 
 module _ (o n : ℕ) (ws : List ℕ) (x y : ℕ) (m : List ℕ) where
   -- Number 4.

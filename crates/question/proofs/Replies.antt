@@ -2,7 +2,6 @@
 use Prim.Native.Nat.{ℕ, zero, suc}
 use mathlib.Core.Path.{_≡_, refl, sym, ap, _∙_}
 use mathlib.Core.Bool.{cond}
-use mathlib.Core.Logic.{inl}
 use lib.Dec.{eqb}
 use Rattle.net.specs.Table.{Reply}
 use Rattle.net.proofs.Replies.{refusalAt, refusal-at-reply, refusal-not}
@@ -28,7 +27,7 @@ asked-at-reply (asked.Done None count) = refl
 asked-at-reply (asked.Done Yes count) = refl
 asked-at-reply (asked.Done No count) = refl
 asked-at-reply (asked.Done Both count) = refl
-asked-at-reply (asked.Refused r) = rw (refusal-not r 0 (inl refl), refusal-at-reply r)
+asked-at-reply (asked.Refused r) = rw (refusal-not r 0 refl, refusal-at-reply r)
 
 -- No two answers to a question have one reply.
 pub asked-reply-one-to-one : (r q : Asked) → askedReply r ≡ askedReply q → r ≡ q

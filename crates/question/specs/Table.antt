@@ -6,6 +6,7 @@ use lib.Dec.{ltb}
 use lib.ListN.{length, getD, drop}
 use Rattle.theory.specs.Marks.{saysYes, saysNo}
 use Rattle.theory.specs.Scans.{Scan, fullScan}
+use Rattle.theory.specs.Origins.{chosen}
 use Rattle.net.specs.Clauses.{Clause, clause, call}
 use Rattle.net.specs.Table.{netClauses, badPair, Reply, reply, refusalReply}
 use Rattle.net.specs.declared.Refusal.the-variants.{BadQuestion, ShortBuffer}
@@ -38,12 +39,12 @@ readAt y s past = questionOutcome (asked.Done (answerAt (getD (s .marks) y 0)) (
 abbrev pub questionDone : List ℕ → ℕ → ℕ → List ℕ → ℕ → QuestionOutcome
 questionDone ws x y m n = readAt y (fullScan n ws x) (drop n m)
 
-abbrev pub questionTable : ℕ → ℕ → List ℕ → ℕ → ℕ → List ℕ → List (Clause QuestionOutcome)
-questionTable o k ws x y m = netClauses (λ r. questionOutcome (asked.Refused r) m) o k ws (questionClauses o x y m (o + k))
+abbrev pub questionTable : ℕ → ℕ → List ℕ → ℕ → ℕ → ℕ → List ℕ → List (Clause QuestionOutcome)
+questionTable o k ws set x y m = netClauses (λ r. questionOutcome (asked.Refused r) m) o k ws set (questionClauses o x y m (o + k))
 
--- The question whether x is y.
-abbrev pub questioned : ℕ → ℕ → List ℕ → ℕ → ℕ → List ℕ → QuestionOutcome
-questioned o k ws x y m = call (questionTable o k ws x y m) (questionDone ws x y m (o + k))
+-- The question whether x is y, of the words that the set chooses.
+abbrev pub questioned : ℕ → ℕ → List ℕ → ℕ → ℕ → ℕ → List ℕ → QuestionOutcome
+questioned o k ws set x y m = call (questionTable o k ws set x y m) (questionDone (chosen set ws) x y m (o + k))
 
 -- The paper's number and values for each answer.
 abbrev pub answerNumber : Answer → ℕ

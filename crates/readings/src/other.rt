@@ -7,36 +7,36 @@ use second::Reply;
 
 // The check of a net.
 pub fn on_words(n: Numbers, words: &[u32]) -> Reply {
-    second::check_net(n.o, n.k, words)
+    second::check_net(n.o, n.k, words, n.set)
 }
 
 // The test of a word.
 pub fn on_word(n: Numbers) -> Reply {
-    second::check_word(n.o, n.k, n.x)
+    second::check_word(n.o, n.k, n.word)
 }
 
 // An operation that is lent marks alone.
 pub fn on_marks(operation: Operation, n: Numbers, words: &[u32], marks: &mut [u8]) -> Reply {
     match operation {
-        Operation::Scan => second::scan(n.o, n.k, words, n.x, n.y, marks),
-        Operation::Question => second::question(n.o, n.k, words, n.x, n.y, marks),
-        _ => second::clash(n.o, n.k, words, marks),
+        Operation::Scan => second::scan(n.o, n.k, words, n.set, n.x, n.y, marks),
+        Operation::Question => second::question(n.o, n.k, words, n.set, n.x, n.y, marks),
+        _ => second::clash(n.o, n.k, words, n.set, marks),
     }
 }
 
 // The completion.
 pub fn on_list(n: Numbers, words: &[u32], marks: &mut [u8], list: &mut [u32]) -> Reply {
-    second::completion(n.o, n.k, words, marks, list)
+    second::completion(n.o, n.k, words, n.set, marks, list)
 }
 
 // The reason.
 pub fn on_scratch(n: Numbers, words: &[u32], scratch: &mut [u16], list: &mut [u16]) -> Reply {
-    second::reason(n.o, n.k, words, n.x, n.y, n.sign, scratch, list)
+    second::reason(n.o, n.k, words, n.set, n.x, n.y, n.sign, scratch, list)
 }
 
 // The check of a reason.
 pub fn on_reason(n: Numbers, words: &[u32], list: &[u16]) -> Reply {
-    second::reason_check(n.o, n.k, words, n.x, n.y, n.sign, list)
+    second::reason_check(n.o, n.k, words, n.set, n.x, n.y, n.sign, list)
 }
 
 // The contents of a file.

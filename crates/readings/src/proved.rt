@@ -19,36 +19,44 @@ use strumelka::strumelka_scan;
 
 // The check of a net.
 pub fn on_words(n: Numbers, words: &[u32]) -> Reply {
-    reply_given(strumelka_check_net(n.o, n.k, words))
+    reply_given(strumelka_check_net(n.o, n.k, words, n.set))
 }
 
 // The test of a word.
 pub fn on_word(n: Numbers) -> Reply {
-    reply_given(strumelka_check_word(n.o, n.k, n.x))
+    reply_given(strumelka_check_word(n.o, n.k, n.word))
 }
 
 // An operation that is lent marks alone.
 pub fn on_marks(operation: Operation, n: Numbers, words: &[u32], marks: &mut [u8]) -> Reply {
     match operation {
-        Operation::Scan => reply_given(strumelka_scan(n.o, n.k, words, n.x, n.y, marks)),
-        Operation::Question => reply_given(strumelka_question(n.o, n.k, words, n.x, n.y, marks)),
-        _ => reply_given(strumelka_clash(n.o, n.k, words, marks)),
+        Operation::Scan => reply_given(strumelka_scan(n.o, n.k, words, n.set, n.x, n.y, marks)),
+        Operation::Question => reply_given(strumelka_question(
+            n.o,
+            n.k,
+            words,
+            n.set,
+            n.x,
+            n.y,
+            marks,
+        )),
+        _ => reply_given(strumelka_clash(n.o, n.k, words, n.set, marks)),
     }
 }
 
 // The completion.
 pub fn on_list(n: Numbers, words: &[u32], marks: &mut [u8], list: &mut [u32]) -> Reply {
-    reply_given(strumelka_completion(n.o, n.k, words, marks, list))
+    reply_given(strumelka_completion(n.o, n.k, words, n.set, marks, list))
 }
 
 // The reason.
 pub fn on_scratch(n: Numbers, words: &[u32], scratch: &mut [u16], list: &mut [u16]) -> Reply {
-    reply_given(strumelka_reason(n.o, n.k, words, n.x, n.y, n.sign, scratch, list))
+    reply_given(strumelka_reason(n.o, n.k, words, n.set, n.x, n.y, n.sign, scratch, list))
 }
 
 // The check of a reason.
 pub fn on_reason(n: Numbers, words: &[u32], list: &[u16]) -> Reply {
-    reply_given(strumelka_reason_check(n.o, n.k, words, n.x, n.y, n.sign, list))
+    reply_given(strumelka_reason_check(n.o, n.k, words, n.set, n.x, n.y, n.sign, list))
 }
 
 // The contents of a file.

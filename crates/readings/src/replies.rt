@@ -25,10 +25,10 @@ pub fn reply_given(given: net::Reply) -> Reply {
     reply(given.number, given.first, given.second)
 }
 
-// The contents of a file: where its questions start, or the place of a 9.
+// The contents of a file: where its questions and its set start, or the place of a 9.
 pub fn contents_reply(contents: Contents) -> Reply {
     match contents {
-        Contents::Bodies(start) => reply(0, narrow(start), 0),
+        Contents::Bodies(questions, set) => reply(0, narrow(questions), narrow(set)),
         Contents::Malformed(place) => reply(9, place, 0),
     }
 }

@@ -44,10 +44,12 @@ pub struct Case {
     pub second: usize,
 }
 
-// The numbers of a case: o, k, and what follows them or the words; the one word of a single test is x.
+// The numbers of a case: o, k, the set of origins, and what follows it. The one word of a single test stands in the set's place.
 pub struct Numbers {
     pub o: u32,
     pub k: u32,
+    pub set: u32,
+    pub word: u32,
     pub x: u32,
     pub y: u32,
     pub sign: u32,
@@ -97,14 +99,14 @@ fn file_operation_of(name: &[u8]) -> Operation {
 // r a reason, f a file.
 fn letter_at(operation: Operation, at: usize) -> u8 {
     match operation {
-        Operation::CheckNet => byte_at(b"nnw", at),
+        Operation::CheckNet => byte_at(b"nnwn", at),
         Operation::CheckWord => byte_at(b"nnn", at),
-        Operation::Scan => byte_at(b"nnwnnm", at),
-        Operation::Question => byte_at(b"nnwnnm", at),
-        Operation::Completion => byte_at(b"nnwmc", at),
-        Operation::Clash => byte_at(b"nnwm", at),
-        Operation::Reason => byte_at(b"nnwnnnsr", at),
-        Operation::ReasonCheck => byte_at(b"nnwnnnr", at),
+        Operation::Scan => byte_at(b"nnwnnnm", at),
+        Operation::Question => byte_at(b"nnwnnnm", at),
+        Operation::Completion => byte_at(b"nnwnmc", at),
+        Operation::Clash => byte_at(b"nnwnm", at),
+        Operation::Reason => byte_at(b"nnwnnnnsr", at),
+        Operation::ReasonCheck => byte_at(b"nnwnnnnr", at),
         Operation::File => byte_at(b"f", at),
         Operation::Ask => byte_at(b"fb", at),
         Operation::Unknown => 0,
@@ -246,7 +248,7 @@ pub fn read_case(operation: Operation, line: &[u8], at: usize, store: &mut [u32]
     }
     let mut case = begun(at, RIGHT);
     let mut i: usize = 0;
-    while i < 8 {
+    while i < 9 {
         let letter = letter_at(operation, i);
         if letter == 0 {
             return ended(line, case);
@@ -262,8 +264,10 @@ pub fn numbers_of(store: &[u32]) -> Numbers {
     Numbers {
         o: number_at(store, 0),
         k: number_at(store, 1),
-        x: number_at(store, 2),
-        y: number_at(store, 3),
-        sign: number_at(store, 4),
+        set: number_at(store, 2),
+        word: number_at(store, 2),
+        x: number_at(store, 3),
+        y: number_at(store, 4),
+        sign: number_at(store, 5),
     }
 }

@@ -9,6 +9,7 @@ use lib.ListN.{length, take, drop}
 use lib.Seq.{take-at}
 use Rattle.theory.specs.Words.{Sign, signAt}
 use Rattle.theory.specs.Nets.{Net}
+use Rattle.theory.specs.Origins.{NetFrom}
 use Rattle.theory.specs.Searches.{distances, reasonStates}
 use Rattle.theory.proofs.reason.Distances.{distances-length}
 use Rattle.theory.proofs.reason.Searching.{next-state}
@@ -16,25 +17,27 @@ use Rattle.net.specs.Clauses.{call}
 use Rattle.net.specs.Table.{checkNet, badStatement}
 use Rattle.net.specs.declared.Refusal.the-variants.{BadQuestion, ShortBuffer}
 use Rattle.net.specs.declared.Checked.the-variants as checked
-use Rattle.net.proofs.NetCheck.{check-is-net}
+use Rattle.net.proofs.NetCheck.{chosen-checked}
 use Rattle.reason_walk.specs.Walk.{Leads}
 use Rattle.reason.specs.Table.{reasonOutcome, reasonClauses, reasonDone}
 use Rattle.reason.specs.Searched.{reasonFrom}
 use Rattle.reason.specs.declared.Reasoned.{Reasoned}
 use Rattle.reason.specs.declared.Reasoned.the-variants.{Refused}
 
--- A net is one also where every node counts as a kind.
-all-kinds : (o k n : ℕ) (ws : List ℕ) → n ≡ o + k → Net o k ws → Net 0 n ws
-all-kinds o k n ws e net =
+-- What passes the check is a net for the search too, where every node counts as a kind.
+pub searched-net : (o k : ℕ) (ws : List ℕ) (set n : ℕ) → checkNet o k ws set ≡ checked.Nodes n → NetFrom 0 n ws
+searched-net o k ws set n e =
+    let (same, net, _) = chosen-checked o k ws set e in
     record {
       few = omega (arith, net .few);
       short = net .short;
-      legal = λ w m. let g = net .legal w m in record { tail = omega (arith, g .tail); head = record { low = omega arith; high = omega (arith, g .head .high) } };
+      legal = λ w m.
+          let g = net .legal w m in
+          record {
+            origin = g .origin;
+            plain = record { tail = omega (arith, g .plain .tail); head = record { low = omega arith; high = omega (arith, g .plain .head .high) } };
+          };
     }
-
--- What passes the check is a net for the search.
-pub checked-net : (o k : ℕ) (ws : List ℕ) (n : ℕ) → checkNet o k ws ≡ checked.Nodes n → Net 0 n ws
-checked-net o k ws n e = let t = check-is-net o k ws n e in all-kinds o k n ws (t .0) (t .1)
 
 -- The distances lead from every state that has one.
 pub distances-lead : (n : ℕ) (s : Sign) (ws : List ℕ) (y : ℕ) → Net 0 n ws → y < n → Leads n s ws (distances n s ws y)

@@ -1,8 +1,6 @@
 -- The reply tells which answer it is.
 use mathlib.Core.Path.{_≡_, refl, sym, ap, _∙_}
 use mathlib.Core.Bool.{cond}
-use mathlib.Core.Logic.{inl, inr}
-use native.Mathlib.Omega.{arith}
 use lib.Dec.{eqb}
 use Rattle.net.specs.Table.{Reply}
 use Rattle.net.proofs.Replies.{refusalAt, refusal-at-reply, refusal-not}
@@ -23,7 +21,7 @@ reasoned-at-reply (Done places) = refl
 reasoned-at-reply Unsupported = refl
 reasoned-at-reply (Short needed) = refl
 reasoned-at-reply (Refused r) =
-    rw (refusal-not r 0 (inl refl), refusal-not r 7 (inr (omega arith)), refusal-not r 8 (inr (omega arith)), refusal-at-reply r)
+    rw (refusal-not r 0 refl, refusal-not r 7 refl, refusal-not r 8 refl, refusal-at-reply r)
 
 -- No two answers have one reply.
 pub reasoned-reply-one-to-one : (r q : Reasoned) → reasonedReply r ≡ reasonedReply q → r ≡ q

@@ -6,6 +6,7 @@ use lib.ListN.{length, getD, drop}
 use Rattle.theory.specs.Words.{signAt}
 use Rattle.theory.specs.Reasons.{never}
 use Rattle.theory.specs.Searches.{distances, reasonStates, reasonList}
+use Rattle.theory.specs.Origins.{chosen}
 use Rattle.net.specs.Clauses.{Clause, clause, call}
 use Rattle.net.specs.Table.{netClauses, badStatement, Reply, reply, refusalReply}
 use Rattle.net.specs.declared.Refusal.the-variants.{BadQuestion, ShortBuffer}
@@ -50,12 +51,14 @@ reasonClauses o ws x y sign d l n =
 abbrev pub reasonDone : List ℕ → ℕ → ℕ → ℕ → List ℕ → List ℕ → ℕ → ReasonOutcome
 reasonDone ws x y sign d l n = foundDone (reasonOf ws x y sign n) (filled ws y sign d n) l
 
-abbrev pub reasonTable : ℕ → ℕ → List ℕ → ℕ → ℕ → ℕ → List ℕ → List ℕ → List (Clause ReasonOutcome)
-reasonTable o k ws x y sign d l = netClauses (λ r. reasonOutcome (Refused r) d l) o k ws (reasonClauses o ws x y sign d l (o + k))
+-- The whole table: these clauses over the chosen words, behind those of the net.
+abbrev pub reasonTable : ℕ → ℕ → List ℕ → ℕ → ℕ → ℕ → ℕ → List ℕ → List ℕ → List (Clause ReasonOutcome)
+reasonTable o k ws set x y sign d l =
+    netClauses (λ r. reasonOutcome (Refused r) d l) o k ws set (reasonClauses o (chosen set ws) x y sign d l (o + k))
 
--- The reason for x → y (sign 0) or x ↛ y (sign 1).
-abbrev pub reasoned : ℕ → ℕ → List ℕ → ℕ → ℕ → ℕ → List ℕ → List ℕ → ReasonOutcome
-reasoned o k ws x y sign d l = call (reasonTable o k ws x y sign d l) (reasonDone ws x y sign d l (o + k))
+-- The reason for x → y (sign 0) or x ↛ y (sign 1) by the words that the set of origins chooses.
+abbrev pub reasoned : ℕ → ℕ → List ℕ → ℕ → ℕ → ℕ → ℕ → List ℕ → List ℕ → ReasonOutcome
+reasoned o k ws set x y sign d l = call (reasonTable o k ws set x y sign d l) (reasonDone (chosen set ws) x y sign d l (o + k))
 
 -- The paper's number and values for each answer.
 abbrev pub reasonedReply : Reasoned → Reply

@@ -2,7 +2,6 @@
 use Prim.Native.Nat.{ℕ, zero, suc}
 use mathlib.Core.Path.{_≡_, refl, sym, ap, _∙_}
 use mathlib.Core.Bool.{cond}
-use mathlib.Core.Logic.{inl}
 use lib.Dec.{eqb}
 use Rattle.net.specs.Table.{Reply}
 use Rattle.net.proofs.Replies.{refusalAt, refusal-at-reply, refusal-not}
@@ -22,7 +21,7 @@ verdictAt r = cond (eqb (r .number) 0) (verdictOf (r .first)) (Refused (refusalA
 pub verdict-at-reply : (v : Verdict) → verdictAt (verdictReply v) ≡ v
 verdict-at-reply Holds = refl
 verdict-at-reply Fails = refl
-verdict-at-reply (Refused r) = rw (refusal-not r 0 (inl refl), refusal-at-reply r)
+verdict-at-reply (Refused r) = rw (refusal-not r 0 refl, refusal-at-reply r)
 
 -- No two verdicts have one reply.
 pub verdict-reply-one-to-one : (v u : Verdict) → verdictReply v ≡ verdictReply u → v ≡ u

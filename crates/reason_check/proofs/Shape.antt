@@ -56,37 +56,37 @@ module _ (o k : ℕ) (ws : List ℕ) (x y : ℕ) (s : Sign) where
 
   -- The tests in their order: the first that fails decides, and past them all the steps do.
   module _ (l : List ℕ) (long : 3 ≤ length l) where
-    pub no-first-part : getD l 0 0 ≡ 0 → false ≡ passes o k ws x y s l
-    no-first-part e = rw (passes-places l long, e)
+    pub first-part-fails : getD l 0 0 ≡ 0 → false ≡ passes o k ws x y s l
+    first-part-fails e = rw (passes-places l long, e)
 
     module _ (some : getD l 0 0 ≡ 0 → ⊥) where
       some-first : ltb 0 (getD l 0 0) ≡ true
       some-first = lt-ltb 0 (getD l 0 0) (omega arith)
 
-      pub other-length : (getD l 0 0 + getD l 1 0 + 2 ≡ length l → ⊥) → false ≡ passes o k ws x y s l
-      other-length n = rw (passes-places l long, some-first, ne-eqb (getD l 0 0 + getD l 1 0 + 2) (length l) n)
+      pub length-fails : (getD l 0 0 + getD l 1 0 + 2 ≡ length l → ⊥) → false ≡ passes o k ws x y s l
+      length-fails n = rw (passes-places l long, some-first, ne-eqb (getD l 0 0 + getD l 1 0 + 2) (length l) n)
 
       module _ (sizes : getD l 0 0 + getD l 1 0 + 2 ≡ length l) where
         same-length : eqb (getD l 0 0 + getD l 1 0 + 2) (length l) ≡ true
         same-length = eq-eqb (getD l 0 0 + getD l 1 0 + 2) (length l) sizes
 
         module _ {r : Bool} (asked : r ≡ goesWith s (getD l 1 0)) where
-          pub other-sign : not r ≡ true → false ≡ passes o k ws x y s l
-          other-sign n = rw (passes-places l long, some-first, same-length, sym asked ∙ not-true r n)
+          pub sign-fails : not r ≡ true → false ≡ passes o k ws x y s l
+          sign-fails n = rw (passes-places l long, some-first, same-length, sym asked ∙ not-true r n)
 
           module _ (goes : not r ≡ false) where
             same-sign : goesWith s (getD l 1 0) ≡ true
             same-sign = sym asked ∙ not-false r goes
 
-            pub other-start : (getD l 2 0 ≡ x → ⊥) → false ≡ passes o k ws x y s l
-            other-start n = rw (passes-places l long, some-first, same-length, same-sign, ne-eqb (getD l 2 0) x n)
+            pub start-fails : (getD l 2 0 ≡ x → ⊥) → false ≡ passes o k ws x y s l
+            start-fails n = rw (passes-places l long, some-first, same-length, same-sign, ne-eqb (getD l 2 0) x n)
 
             module _ (start : getD l 2 0 ≡ x) where
               same-start : eqb (getD l 2 0) x ≡ true
               same-start = eq-eqb (getD l 2 0) x start
 
-              pub other-end : (getD l (length l - 1) 0 ≡ y → ⊥) → false ≡ passes o k ws x y s l
-              other-end n =
+              pub end-fails : (getD l (length l - 1) 0 ≡ y → ⊥) → false ≡ passes o k ws x y s l
+              end-fails n =
                   rw (passes-places l long, some-first, same-length, same-sign, same-start, ne-eqb (getD l (length l - 1) 0) y n)
 
               pub steps-decide : getD l (length l - 1) 0 ≡ y → {r : Bool} → r ≡ allSteps o k ws (getD l 0 0) 0 (getD l 2 0) (drop 3 l)

@@ -4,6 +4,7 @@ use mathlib.Core.Bool.{cond}
 use mathlib.Core.List.{List, [], _∷_}
 use Rattle.theory.specs.Words.{signAt}
 use Rattle.theory.specs.Checks.{passes}
+use Rattle.theory.specs.Origins.{chosen}
 use Rattle.net.specs.Clauses.{Clause, clause, call}
 use Rattle.net.specs.Table.{netClauses, badStatement, Reply, reply, refusalReply}
 use Rattle.net.specs.declared.Refusal.the-variants.{BadQuestion}
@@ -18,12 +19,12 @@ checkClauses o x y sign n = clause 4 (badStatement o n x y sign) (Refused BadQue
 abbrev pub checkDone : ℕ → ℕ → List ℕ → ℕ → ℕ → ℕ → List ℕ → Verdict
 checkDone o k ws x y sign l = cond (passes o k ws x y (signAt sign) l) Holds Fails
 
-abbrev pub checkTable : ℕ → ℕ → List ℕ → ℕ → ℕ → ℕ → List (Clause Verdict)
-checkTable o k ws x y sign = netClauses Refused o k ws (checkClauses o x y sign (o + k))
+abbrev pub checkTable : ℕ → ℕ → List ℕ → ℕ → ℕ → ℕ → ℕ → List (Clause Verdict)
+checkTable o k ws set x y sign = netClauses Refused o k ws set (checkClauses o x y sign (o + k))
 
--- Whether the list is a path that shows x → y (sign 0) or x ↛ y (sign 1).
-abbrev pub verdict : ℕ → ℕ → List ℕ → ℕ → ℕ → ℕ → List ℕ → Verdict
-verdict o k ws x y sign l = call (checkTable o k ws x y sign) (checkDone o k ws x y sign l)
+-- Whether the list is a path of words that the set of origins chooses, and shows x → y (sign 0) or x ↛ y (sign 1).
+abbrev pub verdict : ℕ → ℕ → List ℕ → ℕ → ℕ → ℕ → ℕ → List ℕ → Verdict
+verdict o k ws set x y sign l = call (checkTable o k ws set x y sign) (checkDone o k (chosen set ws) x y sign l)
 
 -- The paper's number for each answer; that yes is the value 1 and no 0 is this project's.
 abbrev pub verdictReply : Verdict → Reply

@@ -1,7 +1,8 @@
-// The check of a reason from anybody.
+// The check of a reason from anybody, over the words that a set of origins chooses.
 ghost use mathlib.Core.Path.{_≡_};
 ghost use Rattle.theory.specs.Words.{signAt};
 ghost use Rattle.theory.specs.Checks.{goesWith, passes};
+ghost use Rattle.theory.specs.Origins.{chosen, NetFrom};
 ghost use Rattle.reason_check.specs.Table.{checkClauses, checkDone, verdict};
 ghost use Rattle.net.specs.Clauses.{call};
 use net::Checked;
@@ -28,8 +29,9 @@ fn goes_with(sign: u32, second: u16) -> bool
 }
 
 // Whether the list has the shape of a path from `x` to `y`, with nothing after it, and its steps hold.
-fn is_path(o: u32, k: u32, words: &[u32], x: u32, y: u32, sign: u32, list: &[u16]) -> bool
-    ensures { λ r. ⌜ r ≡ passes o k (now (words .entry)) x y (signAt sign) (now (list .entry)) ⌝ }
+fn is_path(o: u32, k: u32, words: &[u32], set: u32, x: u32, y: u32, sign: u32, list: &[u16]) -> bool
+    requires { ⌜ NetFrom o k (now words) ⌝ }
+    ensures { λ r. ⌜ r ≡ passes o k (chosen set (now (words .entry))) x y (signAt sign) (now (list .entry)) ⌝ }
 {
     if list.len() < 3 {
         return false;
@@ -51,7 +53,7 @@ fn is_path(o: u32, k: u32, words: &[u32], x: u32, y: u32, sign: u32, list: &[u16
     if list[list.len() - 1] as u32 != y {
         return false;
     }
-    steps_hold(o, k, words, list)
+    steps_hold(o, k, words, set, list)
 }
 
 // Number 4, and then the list.
@@ -60,37 +62,40 @@ fn check_list(
     k: u32,
     n: usize,
     words: &[u32],
+    set: u32,
     x: u32,
     y: u32,
     sign: u32,
     list: &[u16],
 ) -> Verdict
-    ensures { λ r. ⌜ r ≡ call (checkClauses o x y sign n) (checkDone o k (now (words .entry)) x y sign (now (list .entry))) ⌝ }
+    requires { ⌜ NetFrom o k (now words) ⌝ }
+    ensures { λ r. ⌜ r ≡ call (checkClauses o x y sign n) (checkDone o k (chosen set (now (words .entry))) x y sign (now (list .entry))) ⌝ }
 {
     if is_bad_statement(o, n, x, y, sign) {
         return Verdict::Refused(Refusal::BadQuestion);
     }
-    if is_path(o, k, words, x, y, sign, list) {
+    if is_path(o, k, words, set, x, y, sign, list) {
         return Verdict::Holds;
     }
     Verdict::Fails
 }
 
-// Whether `list` is a path that shows x → y (`sign` 0) or x ↛ y (`sign` 1).
+// Whether `list` is a path of words that the set of origins chooses, and shows x → y (`sign` 0) or x ↛ y (`sign` 1).
 pub fn check_reason(
     o: u32,
     k: u32,
     words: &[u32],
+    set: u32,
     x: u32,
     y: u32,
     sign: u32,
     list: &[u16],
 ) -> Verdict
-    ensures { λ r. ⌜ r ≡ verdict o k (now (words .entry)) x y sign (now (list .entry)) ⌝ }
+    ensures { λ r. ⌜ r ≡ verdict o k (now (words .entry)) set x y sign (now (list .entry)) ⌝ }
 {
-    let net = check_net(o, k, words);
+    let net = check_net(o, k, words, set);
     match net {
         Checked::Refused(refusal) => Verdict::Refused(refusal),
-        Checked::Nodes(n) => check_list(o, k, n, words, x, y, sign, list),
+        Checked::Nodes(n) => check_list(o, k, n, words, set, x, y, sign, list),
     }
 }

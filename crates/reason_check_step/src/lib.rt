@@ -1,10 +1,10 @@
-// One step of a path: whether a word makes it, and whether it repeats a kind.
+// One step of a path: whether a plain word makes it, and whether it repeats a kind.
 ghost use mathlib.Core.Path.{_≡_};
 ghost use Rattle.reason_check_step.specs.Steps.{wordSays, makes, repeats};
-use net::head_of;
-use net::tail_of;
+use net_word::head_of;
+use net_word::tail_of;
 
-// Whether a word says x → y (`sign` 0) or x ↛ y (`sign` 1).
+// Whether a plain word says x → y (`sign` 0) or x ↛ y (`sign` 1).
 fn word_says(word: u32, x: u16, y: u16, sign: u32) -> bool
     ensures { λ r. ⌜ r ≡ wordSays x y sign word ⌝ }
 {
@@ -17,7 +17,7 @@ fn word_says(word: u32, x: u16, y: u16, sign: u32) -> bool
     word % 2 == sign
 }
 
-// Whether a word makes the step between two nodes, the first of them the `reached`-th of the path, whose first part has `first` nodes.
+// Whether a plain word makes the step between two nodes, the first of them the `reached`-th of the path, whose first part has `first` nodes.
 pub fn makes_step(word: u32, first: u16, reached: usize, from: u16, to: u16) -> bool
     ensures { λ r. ⌜ r ≡ makes first reached from to word ⌝ }
 {

@@ -12,6 +12,8 @@ use lib.ListN.{length, getD, drop, drop-of-length-le}
 use lib.Seq.{drop-cons}
 use Rattle.theory_laws.proofs.Booleans.{or-assoc, or-true}
 use Rattle.theory.specs.Checks.{listed, stepAt, allSteps}
+use Rattle.theory.specs.Origins.{plainOf, chooses, chosen}
+use Rattle.theory.proofs.origins.Choosing.{chosen-go, chosen-end}
 use Rattle.reason_check_step.specs.Steps.{wordSays, makes, repeats}
 
 or-exchange : (p q r s : Bool) → ((p || q) || (r || s)) ≡ ((p || r) || (q || s))
@@ -38,9 +40,9 @@ choose-first false false x l g x₁ l₁ x₂ l₂ y m h = or-assoc y m h
 
 module _ (o k a i u v : ℕ) where
   -- Without words only a repeat is a step.
-  step-none : stepAt o k [] a i u v ≡ repeats o k a (suc i) u v
+  step-without-words : stepAt o k [] a i u v ≡ repeats o k a (suc i) u v
   unfolding listed repeats
-  step-none = at (decLt (suc i) a) (ℕ-discrete (suc i) a)
+  step-without-words = at (decLt (suc i) a) (ℕ-discrete (suc i) a)
     where
       at : Dec (suc i < a) → Dec (suc i ≡ a) → stepAt o k [] a i u v ≡ repeats o k a (suc i) u v
       at (yes h) d = rw (lt-ltb (suc i) a h, ne-eqb (suc i) a (λ (e : suc i ≡ a). omega arith))
@@ -57,7 +59,7 @@ module _ (o k a i u v : ℕ) where
       (wordSays v u 0 w) (listed v u 0 ws) (eqb v u && (leb o v && ltb v (o + k)))
 
   repeat-steps : (ws : List ℕ) → repeats o k a (suc i) u v ≡ true → stepAt o k ws a i u v ≡ true
-  repeat-steps [] h = step-none ∙ h
+  repeat-steps [] h = step-without-words ∙ h
   repeat-steps (w ∷ ws) h = step-word w ws ∙ (rw (repeat-steps ws h) (or-true (makes a (suc i) u v w)))
 
 -- Of a written path: the step from node i to the next, whether it repeats a kind, whether a word makes it, and all steps from there on.
@@ -74,16 +76,16 @@ abbrev pub stepsFrom : ℕ → ℕ → List ℕ → List ℕ → ℕ → Bool
 stepsFrom o k ws l i = allSteps o k ws (getD l 0 0) i (getD l (i + 2) 0) (drop (i + 3) l)
 
 module _ (o k : ℕ) (ws l : List ℕ) (i : ℕ) where
-  next : i < length l - 3 → stepsFrom o k ws l i ≡ (stepFrom o k ws l i && stepsFrom o k ws l (i + 1))
+  steps-next : i < length l - 3 → stepsFrom o k ws l i ≡ (stepFrom o k ws l i && stepsFrom o k ws l (i + 1))
   unfolding allSteps
-  next h =
+  steps-next h =
       let e : i + 3 < length l = omega arith in
       let f : i + 1 + 2 ≡ i + 3 = omega arith in
       let g : i + 1 + 3 ≡ suc (i + 3) = omega arith in
       rw (f, g, add-one i, drop-cons l (i + 3) 0 e, allSteps)
 
   taken : i < length l - 3 → stepFrom o k ws l i ≡ true → stepsFrom o k ws l i ≡ stepsFrom o k ws l (i + 1)
-  taken h e = next h ∙ rw e
+  taken h e = steps-next h ∙ rw e
 
   -- The loop over the path has come to node i: no step is left, or the next is a repeat, whatever the words.
   pub path-ends : length l - 3 ≤ i → stepsFrom o k ws l i ≡ true
@@ -95,27 +97,32 @@ module _ (o k : ℕ) (ws l : List ℕ) (i : ℕ) where
       let f : repeatsFrom o k l i ≡ true = sym e ∙ not-false r n in
       taken h (repeat-steps o k (getD l 0 0) i (getD l (i + 2) 0) (getD l (i + 3) 0) ws (rw (add-one i) at f))
 
-  -- There the loop over the words has come to word j, and the words before it did not make the step.
-  module _ (j : ℕ) where
-    here : j < length ws → stepFrom o k (drop j ws) l i ≡ (makesFrom l i (getD ws j 0) || stepFrom o k (drop (j + 1) ws) l i)
-    here h =
-        rw (drop-cons ws j 0 h, add-one j, add-one i)
-        (step-word o k (getD l 0 0) i (getD l (i + 2) 0) (getD l (i + 3) 0) (getD ws j 0) (drop (suc j) ws))
+-- At node i the loop over the words has come to word j, and the chosen words before it did not make the step.
+module _ (set o k : ℕ) (ws l : List ℕ) (i j : ℕ) (before : stepFrom o k (chosen set ws) l i ≡ stepFrom o k (chosen set (drop j ws)) l i) where
+  module _ (at : j < length ws) {q : Bool} (told : q ≡ chooses set (getD ws j 0)) where
+    -- The word is not chosen.
+    pub unchosen-passed : q ≡ false → stepFrom o k (chosen set ws) l i ≡ stepFrom o k (chosen set (drop (j + 1) ws)) l i
+    unchosen-passed n = before ∙ rw (chosen-go set ws j at, sym told ∙ n) refl
 
-    module _ (before : stepFrom o k ws l i ≡ stepFrom o k (drop j ws) l i) where
-      -- The word makes it, or does not.
-      pub word-taken : i < length l - 3 → j < length ws → {r : Bool} → r ≡ makesFrom l i (getD ws j 0) → r ≡ true
-          → stepsFrom o k ws l i ≡ stepsFrom o k ws l (i + 1)
-      word-taken h g e t = taken h (before ∙ here g ∙ rw (sym e ∙ t))
+    -- It is, and without its origin it is w.
+    module _ (picked : q ≡ true) {w : ℕ} (plain : w ≡ plainOf (getD ws j 0)) {r : Bool} (made : r ≡ makesFrom l i w) where
+      step-here : stepFrom o k (chosen set ws) l i ≡ (r || stepFrom o k (chosen set (drop (j + 1) ws)) l i)
+      step-here =
+          before
+          ∙ rw (chosen-go set ws j at, sym told ∙ picked, made, plain, add-one i)
+          (step-word o k (getD l 0 0) i (getD l (i + 2) 0) (getD l (i + 3) 0) (plainOf (getD ws j 0)) (chosen set (drop (j + 1) ws)))
 
-      pub word-passed : j < length ws → {r : Bool} → r ≡ makesFrom l i (getD ws j 0) → r ≡ false
-          → stepFrom o k ws l i ≡ stepFrom o k (drop (j + 1) ws) l i
-      word-passed g e t = before ∙ here g ∙ rw (sym e ∙ t)
+      -- It makes the step, or does not.
+      pub step-made : i < length l - 3 → r ≡ true → stepsFrom o k (chosen set ws) l i ≡ stepsFrom o k (chosen set ws) l (i + 1)
+      step-made h t = taken o k (chosen set ws) l i h (step-here ∙ rw t)
 
-      -- There is no word left, and the step is no repeat.
-      pub words-end : i < length l - 3 → length ws ≤ j → {r : Bool} → r ≡ repeatsFrom o k l i → not r ≡ true → stepsFrom o k ws l i ≡ false
-      words-end h g {r = r} e n =
-          let f : repeatsFrom o k l i ≡ false = sym e ∙ not-true r n in
-          let none : stepFrom o k (drop j ws) l i ≡ false =
-          rw (drop-of-length-le ws g) (step-none o k (getD l 0 0) i (getD l (i + 2) 0) (getD l (i + 3) 0) ∙ (rw (add-one i) at f)) in
-          next h ∙ rw (before ∙ none)
+      pub step-not-made : r ≡ false → stepFrom o k (chosen set ws) l i ≡ stepFrom o k (chosen set (drop (j + 1) ws)) l i
+      step-not-made t = step-here ∙ rw t
+
+  -- There is no word left, and the step is no repeat.
+  pub words-end : i < length l - 3 → length ws ≤ j → {r : Bool} → r ≡ repeatsFrom o k l i → not r ≡ true → stepsFrom o k (chosen set ws) l i ≡ false
+  words-end h g {r = r} e n =
+      let f : repeatsFrom o k l i ≡ false = sym e ∙ not-true r n in
+      let none : stepFrom o k (chosen set (drop j ws)) l i ≡ false =
+      rw (chosen-end set ws j g) (step-without-words o k (getD l 0 0) i (getD l (i + 2) 0) (getD l (i + 3) 0) ∙ (rw (add-one i) at f)) in
+      steps-next o k (chosen set ws) l i h ∙ rw (before ∙ none)

@@ -26,18 +26,18 @@ module _ (i a b : ℕ) (d : List ℕ) (from : a < length d) (to : b < length d) 
   not-at-level h = rw (ne-eqb (getD d b never) i (λ (e : getD d b never ≡ i). h (at-place d b 0 never to ∙ e)))
 
   module _ (at : getD d b 0 ≡ i) where
-    at-level : eqb (getD d b never) i ≡ true
-    at-level = eq-eqb (getD d b never) i (at-place d b never 0 to ∙ at)
+    is-at-level : eqb (getD d b never) i ≡ true
+    is-at-level = eq-eqb (getD d b never) i (at-place d b never 0 to ∙ at)
 
     -- Nor does one from a state that has a distance.
     pub has-distance : (getD d a 0 ≡ never → ⊥) → d ≡ level i (arc a b ∷ []) d
     unfolding level
-    has-distance h = rw (at-level, ne-eqb (getD d a never) never (λ (e : getD d a never ≡ never). h (at-place d a 0 never from ∙ e)))
+    has-distance h = rw (is-at-level, ne-eqb (getD d a never) never (λ (e : getD d a never ≡ never). h (at-place d a 0 never from ∙ e)))
 
     -- Any other gives its state the distance i + 1.
     pub gets-distance : getD d a 0 ≡ never → set d a (i + 1) ≡ level i (arc a b ∷ []) d
     unfolding level
-    gets-distance h = rw (add-one i, at-level, eq-eqb (getD d a never) never (at-place d a never 0 from ∙ h))
+    gets-distance h = rw (add-one i, is-at-level, eq-eqb (getD d a never) never (at-place d a never 0 from ∙ h))
 
 -- Two moves are one after the other.
 pub level-two : (i : ℕ) (e f : Arc) (d : List ℕ) → level i (e ∷ f ∷ []) d ≡ level i (f ∷ []) (level i (e ∷ []) d)

@@ -5,6 +5,7 @@ use mathlib.Core.List.{List, [], _∷_}
 use native.Mathlib.Omega.{arith}
 use Rattle.theory.specs.Words.{signAt, tailOf, headOf, parity}
 use Rattle.theory.specs.Searches.{Arc, arc, arcsOf}
+use Rattle.theory.proofs.origins.Folds.{arcsWord}
 
 module _ (n t h : ℕ) where
   along-is : (s p : ℕ) → s ≡ 0 → p ≡ 0 → arcsOf n (signAt s) t h p [] ≡ arc t h ∷ []
@@ -29,7 +30,7 @@ module _ (n t h : ℕ) where
 
 -- The moves of the word w.
 abbrev pub wordArcs : ℕ → ℕ → ℕ → List Arc
-wordArcs n sign w = arcsOf n (signAt sign) (tailOf w) (headOf w) (parity w) []
+wordArcs n sign w = arcsWord n (signAt sign) w []
 
 -- The code found the word's tail t and its head h.
 module _ (n sign w : ℕ) {t h : ℕ} (tail : t ≡ tailOf w) (head : h ≡ headOf w) where

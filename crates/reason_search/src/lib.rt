@@ -1,16 +1,18 @@
-// The distance of every state to the end of a statement: level by level, each one pass over the words.
+// The distance of every state to the end of a statement, over the words that a set of origins chooses: level by level, each one pass over the words.
 ghost use mathlib.Core.Path.{_≡_};
 ghost use mathlib.Core.List.{[], _∷_};
 ghost use Prim.Native.Nat.{_+_, _<_, _≤_};
 ghost use lib.ListN.{length, set, replicate};
 ghost use Rattle.theory.specs.Words.{signAt, tailOf, headOf, parity};
-ghost use Rattle.theory.specs.Nets.{Net};
 ghost use Rattle.theory.specs.Reasons.{goal, never};
 ghost use Rattle.theory.specs.Searches.{arc, arcsOf, arcs, level, distances};
 ghost use Rattle.theory.specs.Inside.{Ends};
+ghost use Rattle.theory.specs.Origins.{chosen, NetFrom};
 ghost use Rattle.reason_search.specs.Search.{Kept};
-use net::head_of;
-use net::tail_of;
+use net_word::head_of;
+use net_word::is_chosen;
+use net_word::plain_of;
+use net_word::tail_of;
 
 // The place of a state that has no distance.
 pub const NEVER: u16 = 65535;
@@ -32,7 +34,7 @@ fn open_state(i: u16, from: usize, to: usize, places: &mut [u16]) -> bool
     true
 }
 
-// The moves of one word at level `i`; whether one of them gave a state its distance.
+// The moves of one plain word at level `i`; whether one of them gave a state its distance.
 fn open_word(i: u16, n: usize, sign: u32, word: u32, places: &mut [u16]) -> bool
     requires small { ⌜ i < never ⌝ }
     requires ends { ⌜ Ends n word ⌝ }
@@ -59,19 +61,23 @@ fn open_word(i: u16, n: usize, sign: u32, word: u32, places: &mut [u16]) -> bool
     over | turned
 }
 
-// Level `i` over all words; whether it gave a state its distance.
-fn run_level(i: u16, n: usize, sign: u32, words: &[u32], places: &mut [u16]) -> bool
+// Level `i` over the words that the set chooses; whether it gave a state its distance.
+fn run_level(i: u16, n: usize, sign: u32, words: &[u32], set: u32, places: &mut [u16]) -> bool
     requires small { ⌜ i < never ⌝ }
-    requires net { ⌜ Net 0 n (now words) ⌝ }
+    requires net { ⌜ NetFrom 0 n (now words) ⌝ }
     requires room { ⌜ length (now places) ≡ n + n ⌝ }
-    ensures { λ r. ⌜ now (places .exit) ≡ level i (arcs n (signAt sign) (now (words .entry))) (now (places .entry)) ⌝ }
+    ensures { λ r. ⌜ now (places .exit) ≡ level i (arcs n (signAt sign) (chosen set (now (words .entry)))) (now (places .entry)) ⌝ }
     ensures { λ r. ⌜ Kept r (now (places .entry)) (now (places .exit)) ⌝ }
 {
     let mut opened = false;
     let mut j = 0;
     while j < words.len() {
-        opened = opened | open_word(i, n, sign, words[j], places);
+        let word = words[j];
         j += 1;
+        if is_chosen(set, word) {
+            let plain = plain_of(word);
+            opened = opened | open_word(i, n, sign, plain, places);
+        }
     }
     opened
 }
@@ -101,17 +107,17 @@ fn goal_of(n: usize, sign: u32, y: usize) -> usize
 }
 
 // The distances of the 2N states to the end of a path to `y`. A level that adds nothing is the last.
-pub fn find_distances(n: usize, sign: u32, words: &[u32], y: usize, places: &mut [u16])
-    requires net { ⌜ Net 0 n (now words) ⌝ }
+pub fn find_distances(n: usize, sign: u32, words: &[u32], set: u32, y: usize, places: &mut [u16])
+    requires net { ⌜ NetFrom 0 n (now words) ⌝ }
     requires node { ⌜ y < n ⌝ }
     requires room { ⌜ length (now places) ≡ n + n ⌝ }
-    ensures { λ _. ⌜ now (places .exit) ≡ distances n (signAt sign) (now (words .entry)) y ⌝ }
+    ensures { λ _. ⌜ now (places .exit) ≡ distances n (signAt sign) (chosen set (now (words .entry))) y ⌝ }
 {
     let end = goal_of(n, sign, y);
     start_at(end, places);
     let mut i = 0;
     while i < places.len() {
-        if !run_level(i as u16, n, sign, words, places) {
+        if !run_level(i as u16, n, sign, words, set, places) {
             return;
         }
         i += 1;

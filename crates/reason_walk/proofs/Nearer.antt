@@ -1,6 +1,6 @@
 -- The better of two states by one move, by the moves of one word, and what a state stands for, in the terms of the code.
 use Prim.Native.Nat.{ℕ, _+_, _-_, _≤_, _<_}
-use mathlib.Core.Path.{_≡_, refl, _∙_}
+use mathlib.Core.Path.{_≡_, refl, sym, _∙_}
 use mathlib.Core.Bool.{Bool, true, false, cond}
 use mathlib.Core.List.{List, [], _∷_}
 use native.Mathlib.Omega.{arith}
@@ -10,7 +10,8 @@ use lib.ListN.{length, getD, drop}
 use Rattle.theory.specs.Reasons.{never}
 use Rattle.theory.specs.Words.{Sign}
 use Rattle.theory.specs.Searches.{Arc, arc, arcs, next, nodeOf}
-use Rattle.theory.proofs.reason.Searching.{arcsAt, next-go}
+use Rattle.theory.specs.Origins.{plainOf, chooses, chosen}
+use Rattle.theory.proofs.origins.Folds.{nextWord, chosen-next-go}
 use Rattle.reason_search.proofs.Opening.{at-place}
 use Rattle.reason_walk.specs.Walk.{firstPart}
 
@@ -52,24 +53,30 @@ module _ (l : List Arc) (d : List ℕ) (s i z : ℕ) where
   unfolding next
   next-two e f q g h = rw (q, ← g) h
 
--- A search that has come to word j, and what it found over that word.
-pub next-more : (n : ℕ) (s : Sign) (ws : List ℕ) (j : ℕ) (d : List ℕ) (u i z : ℕ) {c b : ℕ} → j < length ws
-    → c ≡ next (arcs n s (drop j ws)) d u i z → b ≡ next (arcsAt n s ws j) d u i z → c ≡ next (arcs n s (drop (j + 1) ws)) d u i b
-next-more n s ws j d u i z h e f = rw f (e ∙ next-go n s ws j d u i z h)
+-- A search over the chosen words has come to word j, and the code told whether it is one of them.
+module _ (set n : ℕ) (s : Sign) (ws : List ℕ) (j : ℕ) (d : List ℕ) (u i z : ℕ) {c : ℕ} {q : Bool}
+    (at : j < length ws) (rest : c ≡ next (arcs n s (chosen set (drop j ws))) d u i z) (told : q ≡ chooses set (getD ws j 0)) where
+  -- It is: the search goes on from what it found over the plain word.
+  pub next-chosen : q ≡ true → {w b : ℕ} → w ≡ plainOf (getD ws j 0) → b ≡ nextWord n s d u i w z → c ≡ next (arcs n s (chosen set (drop (j + 1) ws))) d u i b
+  next-chosen t e f = rest ∙ chosen-next-go set n s d u i ws j z at ∙ rw (sym told ∙ t, f, e) refl
+
+  -- It is not: the best so far stays.
+  pub next-passed : q ≡ false → c ≡ next (arcs n s (chosen set (drop (j + 1) ws))) d u i z
+  next-passed t = rest ∙ chosen-next-go set n s d u i ws j z at ∙ rw (sym told ∙ t) refl
 
 -- A state of the first part is its node, one of the second its node and N more.
 module _ (n v : ℕ) where
-  pub node-first : v < n → v ≡ nodeOf n v
-  node-first h = rw (lt-ltb v n h)
+  pub node-of-first : v < n → v ≡ nodeOf n v
+  node-of-first h = rw (lt-ltb v n h)
 
-  pub node-second : n ≤ v → v - n ≡ nodeOf n v
-  node-second h = rw (le-ltb v n h)
+  pub node-of-second : n ≤ v → v - n ≡ nodeOf n v
+  node-of-second h = rw (le-ltb v n h)
 
-  pub part-first : v < n → 1 ≡ firstPart n v
-  part-first h = rw (lt-ltb v n h)
+  pub part-of-first : v < n → 1 ≡ firstPart n v
+  part-of-first h = rw (lt-ltb v n h)
 
-  pub part-second : n ≤ v → 0 ≡ firstPart n v
-  part-second h = rw (le-ltb v n h)
+  pub part-of-second : n ≤ v → 0 ≡ firstPart n v
+  part-of-second h = rw (le-ltb v n h)
 
   pub part-small : firstPart n v ≤ 1
   part-small = small (ltb v n)

@@ -14,8 +14,8 @@ use Rattle.reason_walk.specs.Walk.{Leads, statesFrom, firstPart}
 use Rattle.reason_walk.proofs.Nearer.{part-small}
 
 -- One more place written: it moves from what is to come to what stands.
-over-more : (l q : List ℕ) (at v k : ℕ) → at < length l → take at l ++ ((v ∷ q) ++ drop (at + (k + 1)) l) ≡ take (at + 1) (set l at v) ++ (q ++ drop (at + 1 + k) (set l at v))
-over-more l q at v k h =
+one-written : (l q : List ℕ) (at v k : ℕ) → at < length l → take at l ++ ((v ∷ q) ++ drop (at + (k + 1)) l) ≡ take (at + 1) (set l at v) ++ (q ++ drop (at + 1 + k) (set l at v))
+one-written l q at v k h =
     let e : at + (k + 1) ≡ suc at + k = omega arith in
     let f : drop (suc at + k) (set l at v) ≡ drop (suc at + k) l = drop-set-lt (suc at + k) l at v (omega arith) in
     rw (add-one at, e, f, take-suc-set l at v h) (sym (append-assoc (take at l) (v ∷ []) (q ++ drop (suc at + k) l)))
@@ -65,19 +65,19 @@ module _ (n : ℕ) (s : Sign) (ws d : List ℕ) (x : ℕ) (l₀ : List ℕ) wher
 
     -- The next state is written after those before it.
     module _ {k u : ℕ} (one : k + 1 ≡ left) (found : u ≡ next (arcs n s ws) d state k (n + n)) where
-      pub next-nearer : (u < n + n) × (getD d u never ≡ k)
-      next-nearer = rw found (leads state k (w .inside) (w .distance ∙ omega arith) (omega (arith, w .small)))
+      pub found-nearer : (u < n + n) × (getD d u never ≡ k)
+      found-nearer = rw found (leads state k (w .inside) (w .distance ∙ omega arith) (omega (arith, w .small)))
 
       pub walking-go : {v f : ℕ} → f ≡ firstPart n u → v ≡ nodeOf n u → Walking n s ws d x l₀ (set l at v) u k (count + f) (at + 1)
       walking-go {v} {f} c e =
           let g : descend (arcs n s ws) d (n + n) state left ≡ u ∷ descend (arcs n s ws) d (n + n) u k = rw (← one, found) (descend-go (arcs n s ws) d (n + n) state k) in
           record {
-            inside = next-nearer .0;
-            distance = next-nearer .1;
+            inside = found-nearer .0;
+            distance = found-nearer .1;
             small = omega (arith, w .small);
             same = length-set l at v ∙ w .same;
             room = omega (arith, w .room);
             counted = omega (arith, w .counted, part-small n u);
             parts = omega (arith, w .parts, ap (firsts n) g, firsts-go n u (descend (arcs n s ws) d (n + n) u k));
-            nodes = rw (g, ← one, ← e) at (w .nodes) ∙ over-more l (map (nodeOf n) (descend (arcs n s ws) d (n + n) u k)) at v k (omega (arith, w .room, w .same));
+            nodes = rw (g, ← one, ← e) at (w .nodes) ∙ one-written l (map (nodeOf n) (descend (arcs n s ws) d (n + n) u k)) at v k (omega (arith, w .room, w .same));
           }

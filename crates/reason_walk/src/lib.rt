@@ -1,16 +1,18 @@
-// The way along the distances: the smallest next state at each step, one pass over the words for each, and the nodes written.
+// The way along the distances, over the words that a set of origins chooses: the smallest next state at each step, one pass over the words for each, and the nodes written.
 ghost use mathlib.Core.Path.{_≡_};
 ghost use mathlib.Core.List.{[], _∷_, _++_, map};
 ghost use Prim.Native.Nat.{_+_, _<_, _≤_};
 ghost use lib.ListN.{length, getD, drop};
 ghost use Rattle.theory.specs.Words.{signAt, tailOf, headOf, parity};
-ghost use Rattle.theory.specs.Nets.{Net};
 ghost use Rattle.theory.specs.Reasons.{never};
 ghost use Rattle.theory.specs.Searches.{arc, arcsOf, arcs, next, firsts, nodeOf};
 ghost use Rattle.theory.specs.Inside.{Ends};
+ghost use Rattle.theory.specs.Origins.{chosen, NetFrom};
 ghost use Rattle.reason_walk.specs.Walk.{Leads, statesFrom, firstPart};
-use net::head_of;
-use net::tail_of;
+use net_word::head_of;
+use net_word::is_chosen;
+use net_word::plain_of;
+use net_word::tail_of;
 
 // The better of `best` and the state that one move leads to, if it comes from `state` and leads to distance `i`.
 fn better_of(from: usize, to: usize, places: &[u16], state: usize, i: u16, best: usize) -> usize
@@ -26,7 +28,7 @@ fn better_of(from: usize, to: usize, places: &[u16], state: usize, i: u16, best:
     if to < best { to } else { best }
 }
 
-// The same over the moves of one word.
+// The same over the moves of one plain word.
 fn best_of_word(
     n: usize,
     sign: u32,
@@ -57,17 +59,29 @@ fn best_of_word(
     better_of(head, n + tail, places, state, i, over)
 }
 
-// The smallest state at distance `i` that a move of the net leads to from `state`, or 2N where there is none.
-fn next_state(n: usize, sign: u32, words: &[u32], places: &[u16], state: usize, i: u16) -> usize
-    requires net { ⌜ Net 0 n (now words) ⌝ }
+// The smallest state at distance `i` that a move of a chosen word leads to from `state`, or 2N where there is none.
+fn next_state(
+    n: usize,
+    sign: u32,
+    words: &[u32],
+    set: u32,
+    places: &[u16],
+    state: usize,
+    i: u16,
+) -> usize
+    requires net { ⌜ NetFrom 0 n (now words) ⌝ }
     requires room { ⌜ length (now places) ≡ n + n ⌝ }
-    ensures { λ r. ⌜ r ≡ next (arcs n (signAt sign) (now (words .entry))) (now (places .entry)) state i (n + n) ⌝ }
+    ensures { λ r. ⌜ r ≡ next (arcs n (signAt sign) (chosen set (now (words .entry)))) (now (places .entry)) state i (n + n) ⌝ }
 {
     let mut best = n + n;
     let mut j = 0;
     while j < words.len() {
-        best = best_of_word(n, sign, words[j], places, state, i, best);
+        let word = words[j];
         j += 1;
+        if is_chosen(set, word) {
+            let plain = plain_of(word);
+            best = best_of_word(n, sign, plain, places, state, i, best);
+        }
     }
     best
 }
@@ -98,17 +112,18 @@ pub fn write_nodes(
     n: usize,
     sign: u32,
     words: &[u32],
+    set: u32,
     places: &[u16],
     x: usize,
     list: &mut [u16],
 ) -> usize
-    requires net { ⌜ Net 0 n (now words) ⌝ }
+    requires net { ⌜ NetFrom 0 n (now words) ⌝ }
     requires room { ⌜ length (now places) ≡ n + n ⌝ }
-    requires leads { ⌜ Leads n (signAt sign) (now words) (now places) ⌝ }
+    requires leads { ⌜ Leads n (signAt sign) (chosen set (now words)) (now places) ⌝ }
     requires start { ⌜ (x < n + n) × (getD (now places) x never < never) ⌝ }
     requires list { ⌜ getD (now places) x never ≤ length (now list) ⌝ }
-    ensures { λ r. ⌜ r ≡ firsts n (statesFrom n (signAt sign) (now (words .entry)) x (now (places .entry))) ⌝ }
-    ensures { λ r. ⌜ now (list .exit) ≡ map (nodeOf n) (statesFrom n (signAt sign) (now (words .entry)) x (now (places .entry))) ++ drop (getD (now (places .entry)) x never) (now (list .entry)) ⌝ }
+    ensures { λ r. ⌜ r ≡ firsts n (statesFrom n (signAt sign) (chosen set (now (words .entry))) x (now (places .entry))) ⌝ }
+    ensures { λ r. ⌜ now (list .exit) ≡ map (nodeOf n) (statesFrom n (signAt sign) (chosen set (now (words .entry))) x (now (places .entry))) ++ drop (getD (now (places .entry)) x never) (now (list .entry)) ⌝ }
 {
     let mut state = x;
     let mut left = places[x];
@@ -116,7 +131,7 @@ pub fn write_nodes(
     let mut at = 0;
     while 0 < left {
         left -= 1;
-        state = next_state(n, sign, words, places, state, left);
+        state = next_state(n, sign, words, set, places, state, left);
         count += first_part(n, state);
         list[at] = node_of(n, state);
         at += 1;

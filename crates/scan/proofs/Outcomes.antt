@@ -9,7 +9,8 @@ use Rattle.theory.specs.Marks.{commands, scanStart}
 use Rattle.theory.specs.Scans.{Scan, after, rounds}
 use Rattle.theory.specs.Inside.{Inside}
 use Rattle.theory.specs.declared.Command.{Command}
-use Rattle.theory.proofs.Inside.{legal-inside}
+use Rattle.theory.specs.Origins.{InsideFrom}
+use Rattle.theory.proofs.origins.Statements.{inside-from}
 use Rattle.theory.proofs.machine.Starts.{start-long, commands-put-8}
 use Rattle.theory.proofs.machine.Frame.{rounds-frame}
 use Rattle.theory.proofs.machine.Budgets.{spent-marks}
@@ -17,15 +18,15 @@ use Rattle.net.specs.Clauses.{call}
 use Rattle.net.specs.Table.{checkNet}
 use Rattle.net.specs.declared.Refusal.the-variants.{BadQuestion, ShortBuffer}
 use Rattle.net.specs.declared.Checked.the-variants.{Nodes}
-use Rattle.net.proofs.NetCheck.{check-is-net}
+use Rattle.net.proofs.NetCheck.{chosen-checked}
 use Rattle.scan.specs.Table.{ScanOutcome, scanOutcome, scanClauses, scanDone}
 use Rattle.scan.specs.declared.Scanned.the-variants.{Done, Spent, Refused}
 
 -- What the check of a net hands to the scan.
-pub checked-inside : (o k : ℕ) (ws : List ℕ) (n : ℕ) → checkNet o k ws ≡ Nodes n → Inside n ws × (n ≤ 1024)
-checked-inside o k ws n e =
-    let t = check-is-net o k ws n e in
-    (rw (t .0) (legal-inside o k ws (t .1 .legal)), rw (t .0) (t .1 .few))
+pub checked-inside : (o k : ℕ) (ws : List ℕ) (set n : ℕ) → checkNet o k ws set ≡ Nodes n → InsideFrom n ws × (n ≤ 1024)
+checked-inside o k ws set n e =
+    let t = chosen-checked o k ws set e in
+    (rw (t .0) (inside-from o k ws (t .1)), rw (t .0) (t .1 .few))
 
 -- The outcome of a scan that is over.
 abbrev pub scanEnd : Scan → ScanOutcome

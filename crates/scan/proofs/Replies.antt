@@ -1,8 +1,6 @@
 -- The reply tells what a scan answered.
 use mathlib.Core.Path.{_≡_, refl, sym, ap, _∙_}
 use mathlib.Core.Bool.{cond}
-use mathlib.Core.Logic.{inl, inr}
-use native.Mathlib.Omega.{arith}
 use lib.Dec.{eqb}
 use Rattle.net.specs.Table.{Reply}
 use Rattle.net.proofs.Replies.{refusalAt, refusal-at-reply, refusal-not}
@@ -17,7 +15,7 @@ scannedAt r = cond (eqb (r .number) 0) (Done (r .first)) (cond (eqb (r .number) 
 pub scanned-at-reply : (r : Scanned) → scannedAt (scanReply r) ≡ r
 scanned-at-reply (Done count) = refl
 scanned-at-reply (Spent count) = refl
-scanned-at-reply (Refused r) = rw (refusal-not r 0 (inl refl), refusal-not r 6 (inr (omega arith)), refusal-at-reply r)
+scanned-at-reply (Refused r) = rw (refusal-not r 0 refl, refusal-not r 6 refl, refusal-at-reply r)
 
 -- No two answers have one reply.
 pub scan-reply-one-to-one : (r q : Scanned) → scanReply r ≡ scanReply q → r ≡ q

@@ -6,6 +6,7 @@ use lib.Dec.{ltb, leb}
 use lib.ListN.{length, drop}
 use Rattle.theory.specs.Marks.{commands, scanStart}
 use Rattle.theory.specs.Scans.{after, scan}
+use Rattle.theory.specs.Origins.{chosen}
 use Rattle.net.specs.Clauses.{Clause, clause, call}
 use Rattle.net.specs.Table.{netClauses, Reply, reply, refusalReply}
 use Rattle.net.specs.declared.Refusal.the-variants.{BadQuestion, ShortBuffer}
@@ -24,7 +25,7 @@ scanOutcome r m = record { answer = r; marks = m }
 abbrev pub badStart : ℕ → ℕ → Bool
 badStart n x = leb n x
 
--- Clauses 4, 5 and 6 on n nodes.
+-- Clauses 4, 5 and 6 on n nodes and plain words.
 abbrev pub scanClauses : List ℕ → ℕ → ℕ → List ℕ → ℕ → List (Clause ScanOutcome)
 scanClauses ws x budget m n =
     clause 4 (badStart n x) (scanOutcome (Refused BadQuestion) m)
@@ -36,12 +37,13 @@ scanClauses ws x budget m n =
 abbrev pub scanDone : List ℕ → ℕ → ℕ → List ℕ → ℕ → ScanOutcome
 scanDone ws x budget m n = scanOutcome (Done (scan n ws x budget .count)) (scan n ws x budget .marks ++ drop n m)
 
-abbrev pub scanTable : ℕ → ℕ → List ℕ → ℕ → ℕ → List ℕ → List (Clause ScanOutcome)
-scanTable o k ws x budget m = netClauses (λ r. scanOutcome (Refused r) m) o k ws (scanClauses ws x budget m (o + k))
+-- The words that the set chooses are scanned.
+abbrev pub scanTable : ℕ → ℕ → List ℕ → ℕ → ℕ → ℕ → List ℕ → List (Clause ScanOutcome)
+scanTable o k ws set x budget m = netClauses (λ r. scanOutcome (Refused r) m) o k ws set (scanClauses (chosen set ws) x budget m (o + k))
 
 -- The scan from x.
-abbrev pub scanned : ℕ → ℕ → List ℕ → ℕ → ℕ → List ℕ → ScanOutcome
-scanned o k ws x budget m = call (scanTable o k ws x budget m) (scanDone ws x budget m (o + k))
+abbrev pub scanned : ℕ → ℕ → List ℕ → ℕ → ℕ → ℕ → List ℕ → ScanOutcome
+scanned o k ws set x budget m = call (scanTable o k ws set x budget m) (scanDone (chosen set ws) x budget m (o + k))
 
 -- The paper's number and values for each answer.
 abbrev pub scanReply : Scanned → Reply

@@ -9,6 +9,7 @@ use lib.ListN.{length, getD, set}
 use Rattle.theory.specs.Words.{parity}
 use Rattle.theory.specs.Marks.{has, near, far, mark, link}
 use Rattle.theory.specs.Growth.{Set}
+use Rattle.theory.specs.Origins.{plainOf, chooses, linkFrom}
 use Rattle.theory.specs.declared.Command.{Command}
 use Rattle.theory.proofs.machine.Growth.{mark-had, mark-more}
 
@@ -45,3 +46,13 @@ module _ (c : Command) (old : List ℕ) (w : ℕ) (m : List ℕ) where
       pub follow-more : {x : ℕ} → x ≡ 2 ^ c .put → q ≡ false → to < length m → Set true m (set m to (bitOr (getD m to 0) x))
       unfolding mark
       follow-more b p l = rw b (mark-more (c .put) to m l (sym g ∙ p))
+
+-- A word with its origin, where the code found that q says whether the set chooses it.
+module _ (set : ℕ) (c : Command) (old : List ℕ) (w : ℕ) (m : List ℕ) {q : Bool} (e : q ≡ chooses set w) where
+  -- One that is not chosen does nothing.
+  pub passed-over : q ≡ false → m ≡ linkFrom set c old w m
+  passed-over f = rw (sym e ∙ f)
+
+  -- A chosen one does what the plain word p does.
+  pub followed : q ≡ true → {p : ℕ} → p ≡ plainOf w → {m′ : List ℕ} → m′ ≡ link c old p m → m′ ≡ linkFrom set c old w m
+  followed t h r = r ∙ rw (h, sym e ∙ t)

@@ -5,9 +5,12 @@ ghost use lib.ListN.{length};
 ghost use Rattle.theory.specs.Marks.{has, near, far, link};
 ghost use Rattle.theory.specs.Inside.{Ends};
 ghost use Rattle.theory.specs.Growth.{Set};
+ghost use Rattle.theory.specs.Origins.{EndsFrom, linkFrom};
 ghost use Rattle.scan_link.specs.Asks.{Small};
-use net::head_of;
-use net::tail_of;
+use net_word::head_of;
+use net_word::is_chosen;
+use net_word::plain_of;
+use net_word::tail_of;
 use theory::Command;
 
 // Whether a byte has marker `j`.
@@ -48,8 +51,8 @@ fn far_of(at_head: bool, word: u32) -> usize
     }
 }
 
-// One link, tested against the marks `old`; whether it set a mark.
-pub fn follow(c: Command, old: &[u8; 1024], n: usize, word: u32, marks: &mut [u8]) -> bool
+// One link, a plain word, tested against the marks `old`; whether it set a mark.
+fn follow(c: Command, old: &[u8; 1024], n: usize, word: u32, marks: &mut [u8]) -> bool
     requires small { ⌜ Small c ⌝ }
     requires ends { ⌜ Ends n word ⌝ }
     requires few { ⌜ n ≤ 1024 ⌝ }
@@ -75,4 +78,26 @@ pub fn follow(c: Command, old: &[u8; 1024], n: usize, word: u32, marks: &mut [u8
     }
     marks[far] = byte | bit_of(put);
     true
+}
+
+// One word with its origin: a chosen one is followed without it, any other passed over. Whether it set a mark.
+pub fn follow_chosen(
+    set: u32,
+    c: Command,
+    old: &[u8; 1024],
+    n: usize,
+    word: u32,
+    marks: &mut [u8],
+) -> bool
+    requires small { ⌜ Small c ⌝ }
+    requires ends { ⌜ EndsFrom n word ⌝ }
+    requires few { ⌜ n ≤ 1024 ⌝ }
+    requires room { ⌜ n ≤ length (now marks) ⌝ }
+    ensures { λ r. ⌜ now (marks .exit) ≡ linkFrom set c (now (old .entry)) word (now (marks .entry)) ⌝ }
+    ensures { λ r. ⌜ Set r (now (marks .entry)) (now (marks .exit)) ⌝ }
+{
+    if !is_chosen(set, word) {
+        return false;
+    }
+    follow(c, old, n, plain_of(word), marks)
 }

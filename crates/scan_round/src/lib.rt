@@ -3,7 +3,7 @@ ghost use mathlib.Core.Path.{_≡_};
 ghost use Prim.Native.Nat.{_≤_};
 ghost use lib.ListN.{length};
 ghost use Rattle.theory.specs.Marks.{commands, round};
-ghost use Rattle.theory.specs.Inside.{Inside};
+ghost use Rattle.theory.specs.Origins.{chosen, InsideFrom};
 ghost use Rattle.theory.specs.Growth.{Set};
 ghost use Rattle.scan_start.specs.Starts.{Low};
 use scan_command::run_command;
@@ -53,19 +53,19 @@ const NOT_TO_TAIL_U: Command = Command {
 };
 
 // One round; whether it set a mark.
-pub fn round(n: usize, words: &[u32], marks: &mut [u8]) -> bool
-    requires inside { ⌜ Inside n (now words) ⌝ }
+pub fn round(n: usize, words: &[u32], set: u32, marks: &mut [u8]) -> bool
+    requires inside { ⌜ InsideFrom n (now words) ⌝ }
     requires few { ⌜ n ≤ 1024 ⌝ }
     requires room { ⌜ n ≤ length (now marks) ⌝ }
     requires low { ⌜ Low n (now marks) ⌝ }
-    ensures { λ r. ⌜ now (marks .exit) ≡ round commands (now (words .entry)) (now (marks .entry)) ⌝ }
+    ensures { λ r. ⌜ now (marks .exit) ≡ round commands (chosen set (now (words .entry))) (now (marks .entry)) ⌝ }
     ensures { λ r. ⌜ Set r (now (marks .entry)) (now (marks .exit)) ⌝ }
     ensures { λ r. ⌜ Low n (now (marks .exit)) ⌝ }
 {
-    let a = run_command(IS_TO_TAIL_T, n, words, marks);
-    let b = run_command(IS_TO_HEAD_U, n, words, marks);
-    let c = run_command(IS_TO_TAIL_F, n, words, marks);
-    let d = run_command(NOT_TO_HEAD_U, n, words, marks);
-    let e = run_command(NOT_TO_TAIL_U, n, words, marks);
+    let a = run_command(set, IS_TO_TAIL_T, n, words, marks);
+    let b = run_command(set, IS_TO_HEAD_U, n, words, marks);
+    let c = run_command(set, IS_TO_TAIL_F, n, words, marks);
+    let d = run_command(set, NOT_TO_HEAD_U, n, words, marks);
+    let e = run_command(set, NOT_TO_TAIL_U, n, words, marks);
     a | b | c | d | e
 }

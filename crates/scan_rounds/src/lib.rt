@@ -4,7 +4,7 @@ ghost use Prim.Native.Nat.{_≤_};
 ghost use lib.ListN.{length};
 ghost use Rattle.theory.specs.Marks.{commands};
 ghost use Rattle.theory.specs.Scans.{rounds};
-ghost use Rattle.theory.specs.Inside.{Inside};
+ghost use Rattle.theory.specs.Origins.{chosen, InsideFrom};
 ghost use Rattle.scan_start.specs.Starts.{Low};
 use scan_round::round;
 
@@ -15,17 +15,17 @@ pub struct Ran {
 }
 
 // Rounds until one sets nothing, within `budget` rounds.
-pub fn run_rounds(n: usize, words: &[u32], budget: u32, marks: &mut [u8]) -> Ran
-    requires inside { ⌜ Inside n (now words) ⌝ }
+pub fn run_rounds(n: usize, words: &[u32], set: u32, budget: u32, marks: &mut [u8]) -> Ran
+    requires inside { ⌜ InsideFrom n (now words) ⌝ }
     requires few { ⌜ n ≤ 1024 ⌝ }
     requires room { ⌜ n ≤ length (now marks) ⌝ }
     requires low { ⌜ Low n (now marks) ⌝ }
-    ensures { λ r. ⌜ rounds commands (now (words .entry)) 0 budget (now (marks .entry)) ≡ record { done = r .done; count = r .count; marks = now (marks .exit) } ⌝ }
+    ensures { λ r. ⌜ rounds commands (chosen set (now (words .entry))) 0 budget (now (marks .entry)) ≡ record { done = r .done; count = r .count; marks = now (marks .exit) } ⌝ }
     ensures { λ r. ⌜ Low n (now (marks .exit)) ⌝ }
 {
     let mut count = 0;
     while count < budget {
-        let changed = round(n, words, marks);
+        let changed = round(n, words, set, marks);
         count += 1;
         if !changed {
             return Ran {

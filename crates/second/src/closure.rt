@@ -1,6 +1,8 @@
 // The table of supported statements: a cell for each pair of nodes, closed under rules (3.1) to (3.5) by passes over all cells.
 // In the cell of (x, y), bit 0 says that x → y is supported, and bit 1 that x ↛ y is.
 ghost use Prim.Native.Nat.{_<_, _≤_};
+use crate::check::is_chosen;
+use crate::check::plain;
 use crate::places::add_bits;
 use crate::places::byte_at;
 use crate::places::narrow;
@@ -34,12 +36,18 @@ fn sign_bit(word: u32) -> u8 {
     if word % 2 == 0 { 1 } else { 2 }
 }
 
-// The links.
-fn add_links(words: &[u32], support: &mut [u8]) {
+// One link, if it is chosen: half of the plain word is the cell of its ends.
+fn add_link(set: u32, word: u32, support: &mut [u8]) {
+    if is_chosen(set, word) {
+        add_bits(support, node(plain(word) / 2), sign_bit(word));
+    }
+}
+
+// The chosen links.
+fn add_links(words: &[u32], set: u32, support: &mut [u8]) {
     let mut i = 0;
     while i < words.len() {
-        let word = words[i];
-        add_bits(support, node(word / 2), sign_bit(word));
+        add_link(set, words[i], support);
         i += 1;
     }
 }
@@ -164,8 +172,8 @@ fn pass(o: usize, n: usize, support: &mut [u8]) -> bool {
 }
 
 // Links, identities, and passes until one adds nothing. Each other pass adds one of 2 × 1,024 × 1,024 statements, so these suffice.
-fn close_cells(o: usize, n: usize, words: &[u32], support: &mut [u8]) {
-    add_links(words, support);
+fn close_cells(o: usize, n: usize, words: &[u32], set: u32, support: &mut [u8]) {
+    add_links(words, set, support);
     add_identities(o, n, support);
     let mut passes: u32 = 0;
     while passes < 2097154 {
@@ -181,9 +189,9 @@ pub fn empty_table() -> [u8; 1048576] {
     [0u8; 1048576]
 }
 
-// Fills an empty table with what the words support.
-pub fn close(o: usize, n: usize, words: &[u32], support: &mut [u8; 1048576]) {
-    close_cells(o, n, words, support);
+// Fills an empty table with what the chosen words support.
+pub fn close(o: usize, n: usize, words: &[u32], set: u32, support: &mut [u8; 1048576]) {
+    close_cells(o, n, words, set, support);
 }
 
 // How many statements a cell holds.

@@ -3,7 +3,7 @@
 
 mod reply; // reply.rt: number and values of an answer
 mod places; // places.rt: reading and writing at any place of a lent slice
-mod check; // check.rt: numbers 1 to 4 of the number table
+mod check; // check.rt: numbers 1 to 4 and 15 of the number table
 mod closure; // closure.rt: the table of supported statements
 mod rounds; // rounds.rt: the rounds of a scan
 mod search; // search.rt: the shortest reason
@@ -15,6 +15,7 @@ use check::cause_of;
 use check::net_check;
 use check::node_check;
 use check::node_count;
+use check::plain_check;
 use check::statement_check;
 use closure::answer;
 use closure::clashing_cell;
@@ -22,10 +23,16 @@ use closure::close;
 use closure::count_words;
 use closure::empty_table;
 use closure::write_words;
+use file::WELL_FORMED;
+use file::count_of;
+use file::first_of;
 use file::front;
+use file::has_set;
 use file::number_at;
 use file::read_words;
-use file::word_count;
+use file::set_of;
+use file::set_start;
+use file::start_of;
 use file::wrong_place;
 use path::shows;
 use places::clear;
@@ -45,8 +52,16 @@ use text::net_line;
 use text::question_lines;
 
 // The scan from the node `start`.
-pub fn scan(o: u32, k: u32, words: &[u32], start: u32, budget: u32, marks: &mut [u8]) -> Reply {
-    let checked = node_check(o, k, words, start);
+pub fn scan(
+    o: u32,
+    k: u32,
+    words: &[u32],
+    set: u32,
+    start: u32,
+    budget: u32,
+    marks: &mut [u8],
+) -> Reply {
+    let checked = node_check(o, k, words, set, start);
     if checked.number != 0 {
         return checked;
     }
@@ -54,12 +69,20 @@ pub fn scan(o: u32, k: u32, words: &[u32], start: u32, budget: u32, marks: &mut 
     if marks.len() < n {
         return refused(5);
     }
-    scan_marks(n, words, node(start), budget, marks)
+    scan_marks(n, words, set, node(start), budget, marks)
 }
 
 // The question (x, y): the word is read off the table, the marks and the count are those of the scan from x.
-pub fn question(o: u32, k: u32, words: &[u32], x: u32, y: u32, marks: &mut [u8]) -> Reply {
-    let checked = statement_check(o, k, words, x, y, 0);
+pub fn question(
+    o: u32,
+    k: u32,
+    words: &[u32],
+    set: u32,
+    x: u32,
+    y: u32,
+    marks: &mut [u8],
+) -> Reply {
+    let checked = statement_check(o, k, words, set, x, y, 0);
     if checked.number != 0 {
         return checked;
     }
@@ -68,14 +91,21 @@ pub fn question(o: u32, k: u32, words: &[u32], x: u32, y: u32, marks: &mut [u8])
         return refused(5);
     }
     let mut support = empty_table();
-    close(node(o), n, words, &mut support);
-    let done = scan_marks(n, words, node(x), whole_budget(o, k), marks);
+    close(node(o), n, words, set, &mut support);
+    let done = scan_marks(n, words, set, node(x), whole_budget(o, k), marks);
     given(done.number, answer(&support, node(x), node(y)), done.first)
 }
 
-// All supported words, ascending.
-pub fn completion(o: u32, k: u32, words: &[u32], marks: &mut [u8], list: &mut [u32]) -> Reply {
-    let checked = net_check(o, k, words);
+// All supported words, ascending and plain.
+pub fn completion(
+    o: u32,
+    k: u32,
+    words: &[u32],
+    set: u32,
+    marks: &mut [u8],
+    list: &mut [u32],
+) -> Reply {
+    let checked = net_check(o, k, words, set);
     if checked.number != 0 {
         return checked;
     }
@@ -84,7 +114,7 @@ pub fn completion(o: u32, k: u32, words: &[u32], marks: &mut [u8], list: &mut [u
         return refused(5);
     }
     let mut support = empty_table();
-    close(node(o), n, words, &mut support);
+    close(node(o), n, words, set, &mut support);
     clear(marks, n);
     let count = count_words(&support);
     if list.len() < count {
@@ -95,8 +125,8 @@ pub fn completion(o: u32, k: u32, words: &[u32], marks: &mut [u8], list: &mut [u
 }
 
 // The smallest node, object or kind, that both is and is not some kind, and the smallest such kind of that node.
-pub fn clash(o: u32, k: u32, words: &[u32], marks: &mut [u8]) -> Reply {
-    let checked = net_check(o, k, words);
+pub fn clash(o: u32, k: u32, words: &[u32], set: u32, marks: &mut [u8]) -> Reply {
+    let checked = net_check(o, k, words, set);
     if checked.number != 0 {
         return checked;
     }
@@ -105,7 +135,7 @@ pub fn clash(o: u32, k: u32, words: &[u32], marks: &mut [u8]) -> Reply {
         return refused(5);
     }
     let mut support = empty_table();
-    close(node(o), n, words, &mut support);
+    close(node(o), n, words, set, &mut support);
     clear(marks, n);
     let at = clashing_cell(&support);
     if at >= 1048576 {
@@ -119,13 +149,14 @@ pub fn reason(
     o: u32,
     k: u32,
     words: &[u32],
+    set: u32,
     x: u32,
     y: u32,
     sign: u32,
     scratch: &mut [u16],
     list: &mut [u16],
 ) -> Reply {
-    let checked = statement_check(o, k, words, x, y, sign);
+    let checked = statement_check(o, k, words, set, x, y, sign);
     if checked.number != 0 {
         return checked;
     }
@@ -133,7 +164,7 @@ pub fn reason(
     if scratch.len() < 2 * n {
         return refused(5);
     }
-    fill_distances(n, words, node(y), sign, scratch);
+    fill_distances(n, words, set, node(y), sign, scratch);
     let links = entry_at(scratch, node(x));
     if links == 65535 {
         return refused(7);
@@ -142,7 +173,7 @@ pub fn reason(
     if list.len() < needed {
         return given(8, narrow(needed), 0);
     }
-    write_reason(n, words, node(x), links, scratch, list);
+    write_reason(n, words, set, node(x), links, scratch, list);
     given(0, narrow(needed), 0)
 }
 
@@ -151,44 +182,53 @@ pub fn reason_check(
     o: u32,
     k: u32,
     words: &[u32],
+    set: u32,
     x: u32,
     y: u32,
     sign: u32,
     list: &[u16],
 ) -> Reply {
-    let checked = statement_check(o, k, words, x, y, sign);
+    let checked = statement_check(o, k, words, set, x, y, sign);
     if checked.number != 0 {
         return checked;
     }
-    if shows(o, k, words, x, y, sign, list) {
+    if shows(o, k, words, set, x, y, sign, list) {
         return given(0, 1, 0);
     }
     given(0, 0, 0)
 }
 
+// The numbers of the net of a well-formed file: without a set its words are plain ones.
+fn file_check(file: &[u8], o: u32, k: u32, words: &[u32]) -> Reply {
+    if has_set(file) {
+        return net_check(o, k, words, set_of(file));
+    }
+    plain_check(o, k, words)
+}
+
 // The text that `ask` prints for a file, written in front of `text`, and its length: what has no room is left out.
 pub fn ask_text(file: &[u8], text: &mut [u8]) -> usize {
     let place = wrong_place(file);
-    if place < 4 {
+    if place != WELL_FORMED {
         return file_line(text, place);
     }
-    let o = number_at(file, 6);
-    let k = number_at(file, 7);
+    let o = number_at(file, first_of(file, 0));
+    let k = number_at(file, first_of(file, 0) + 1);
     let mut room = [0u32; 8192];
     read_words(file, &mut room);
-    let words = front(&room, word_count(file));
-    let net = net_check(o, k, words);
+    let words = front(&room, count_of(file, 1));
+    let net = file_check(file, o, k, words);
     if net.number != 0 {
         return net_line(text, net);
     }
     let mut support = empty_table();
-    close(node(o), node_count(o, k), words, &mut support);
-    question_lines(file, o, k, words, &support, text)
+    close(node(o), node_count(o, k), words, set_of(file), &mut support);
+    question_lines(file, o, k, words, set_of(file), &support, text)
 }
 
-// Numbers 1 to 3 alone; the number of nodes where none of them applies.
-pub fn check_net(o: u32, k: u32, words: &[u32]) -> Reply {
-    let checked = net_check(o, k, words);
+// The numbers of a net alone; the number of nodes where none of them applies.
+pub fn check_net(o: u32, k: u32, words: &[u32], set: u32) -> Reply {
+    let checked = net_check(o, k, words, set);
     if checked.number != 0 {
         return checked;
     }
@@ -207,11 +247,11 @@ pub fn check_word(o: u32, k: u32, word: u32) -> Reply {
     refused(0)
 }
 
-// The place of a malformed file's 9, or where the questions of a well-formed one start.
+// The place of a malformed file's 9, or where the questions and the set of a well-formed one start.
 pub fn read_file(file: &[u8]) -> Reply {
     let place = wrong_place(file);
-    if place < 4 {
+    if place != WELL_FORMED {
         return given(9, place, 0);
     }
-    given(0, number_at(file, 4), 0)
+    given(0, start_of(file, 2), set_start(file))
 }

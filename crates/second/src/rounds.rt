@@ -1,5 +1,6 @@
 // The rounds of the marker machine, each marker in an array of its own: 1 where the node has the mark, 0 elsewhere.
 use crate::check::head_of;
+use crate::check::is_chosen;
 use crate::check::node_count;
 use crate::check::tail_of;
 use crate::places::add_bits;
@@ -10,9 +11,10 @@ use crate::places::put_byte;
 use crate::reply::Reply;
 use crate::reply::given;
 
-// One command: each link of that sign with a mark of `old` at one end puts a mark at its other end; `down` goes from tail to head.
+// One command: each chosen link of that sign with a mark of `old` at one end puts a mark at its other end; `down` goes from tail to head.
 fn command(
     words: &[u32],
+    set: u32,
     sign: u32,
     down: bool,
     old: &[u8; 1024],
@@ -21,15 +23,22 @@ fn command(
     let mut changed = false;
     let mut i = 0;
     while i < words.len() {
-        changed = changed | follow(words[i], sign, down, old, marker);
+        changed = changed | follow(words[i], set, sign, down, old, marker);
         i += 1;
     }
     changed
 }
 
 // What a command does at one word.
-fn follow(word: u32, sign: u32, down: bool, old: &[u8; 1024], marker: &mut [u8; 1024]) -> bool {
-    if word % 2 != sign {
+fn follow(
+    word: u32,
+    set: u32,
+    sign: u32,
+    down: bool,
+    old: &[u8; 1024],
+    marker: &mut [u8; 1024],
+) -> bool {
+    if !is_chosen(set, word) || word % 2 != sign {
         return false;
     }
     let tail = node(tail_of(word));
@@ -41,22 +50,29 @@ fn follow(word: u32, sign: u32, down: bool, old: &[u8; 1024], marker: &mut [u8; 
 }
 
 // The five commands of a round; true when one of them set a mark.
-fn round(words: &[u32], t: &mut [u8; 1024], f: &mut [u8; 1024], u: &mut [u8; 1024]) -> bool {
+fn round(
+    words: &[u32],
+    set: u32,
+    t: &mut [u8; 1024],
+    f: &mut [u8; 1024],
+    u: &mut [u8; 1024],
+) -> bool {
     let old_t = *t;
-    let first = command(words, 0, false, &old_t, t);
+    let first = command(words, set, 0, false, &old_t, t);
     let old_u = *u;
-    let second = command(words, 0, true, &old_u, u);
+    let second = command(words, set, 0, true, &old_u, u);
     let old_f = *f;
-    let third = command(words, 0, false, &old_f, f);
+    let third = command(words, set, 0, false, &old_f, f);
     let new_u = *u;
-    let fourth = command(words, 1, true, &new_u, f);
-    let fifth = command(words, 1, false, &new_u, f);
+    let fourth = command(words, set, 1, true, &new_u, f);
+    let fifth = command(words, set, 1, false, &new_u, f);
     first | second | third | fourth | fifth
 }
 
 // Rounds until one sets nothing, at most `budget` of them.
 fn run_rounds(
     words: &[u32],
+    set: u32,
     budget: u32,
     t: &mut [u8; 1024],
     f: &mut [u8; 1024],
@@ -65,7 +81,7 @@ fn run_rounds(
     let mut count: u32 = 0;
     while count < budget {
         count += 1;
-        if !round(words, t, f, u) {
+        if !round(words, set, t, f, u) {
             return given(0, count, 0);
         }
     }
@@ -114,19 +130,26 @@ pub fn whole_budget(o: u32, k: u32) -> u32 {
 }
 
 // The rounds of the scan of a legal net from the node x, its marks left aside.
-pub fn scan_count(words: &[u32], x: usize, budget: u32) -> Reply {
+pub fn scan_count(words: &[u32], set: u32, x: usize, budget: u32) -> Reply {
     let mut t = only_at(x);
     let mut f = nowhere();
     let mut u = only_at(x);
-    run_rounds(words, budget, &mut t, &mut f, &mut u)
+    run_rounds(words, set, budget, &mut t, &mut f, &mut u)
 }
 
 // The scan of a legal net from the node x.
-pub fn scan_marks(n: usize, words: &[u32], x: usize, budget: u32, marks: &mut [u8]) -> Reply {
+pub fn scan_marks(
+    n: usize,
+    words: &[u32],
+    set: u32,
+    x: usize,
+    budget: u32,
+    marks: &mut [u8],
+) -> Reply {
     let mut t = only_at(x);
     let mut f = nowhere();
     let mut u = only_at(x);
-    let reply = run_rounds(words, budget, &mut t, &mut f, &mut u);
+    let reply = run_rounds(words, set, budget, &mut t, &mut f, &mut u);
     pack(n, &t, &f, &u, marks);
     reply
 }

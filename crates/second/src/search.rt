@@ -1,6 +1,7 @@
 // The shortest reason: distances to the end, shortened link by link until nothing changes, and then the walk that they show.
 // A state is a place of the scratch: v for node v in the first part, N + v for node v in the second.
 use crate::check::head_of;
+use crate::check::is_chosen;
 use crate::check::tail_of;
 use crate::places::entry_at;
 use crate::places::node;
@@ -77,14 +78,22 @@ fn shorten(step: Step, scratch: &mut [u16]) -> bool {
     false
 }
 
+// Shortens distances by the two steps of one link, if it is chosen; true when one became less.
+fn relax_by(n: usize, set: u32, word: u32, scratch: &mut [u16]) -> bool {
+    if !is_chosen(set, word) {
+        return false;
+    }
+    let along = shorten(step_along(n, word), scratch);
+    let against = shorten(step_against(n, word), scratch);
+    along | against
+}
+
 // One pass over the links; true when a distance became less.
-fn relax(n: usize, words: &[u32], scratch: &mut [u16]) -> bool {
+fn relax(n: usize, words: &[u32], set: u32, scratch: &mut [u16]) -> bool {
     let mut changed = false;
     let mut i = 0;
     while i < words.len() {
-        let word = words[i];
-        changed = changed | shorten(step_along(n, word), scratch);
-        changed = changed | shorten(step_against(n, word), scratch);
+        changed = changed | relax_by(n, set, words[i], scratch);
         i += 1;
     }
     changed
@@ -99,12 +108,12 @@ fn end_state(n: usize, y: usize, sign: u32) -> usize {
 }
 
 // Fills the scratch with the distances to the end of a reason for y of that sign; no distance is above 2,047.
-pub fn fill_distances(n: usize, words: &[u32], y: usize, sign: u32, scratch: &mut [u16]) {
+pub fn fill_distances(n: usize, words: &[u32], set: u32, y: usize, sign: u32, scratch: &mut [u16]) {
     fill(scratch, 2 * (n % 2048));
     put_number(scratch, end_state(n, y, sign), 0);
     let mut passes: u32 = 0;
     while passes < 2050 {
-        if !relax(n, words, scratch) {
+        if !relax(n, words, set, scratch) {
             return;
         }
         passes += 1;
@@ -120,14 +129,21 @@ fn better(step: Step, state: usize, best: usize, scratch: &[u16]) -> usize {
     best
 }
 
+// The same for the two steps of one link, if it is chosen.
+fn better_by(n: usize, set: u32, word: u32, state: usize, best: usize, scratch: &[u16]) -> usize {
+    if !is_chosen(set, word) {
+        return best;
+    }
+    let along = better(step_along(n, word), state, best, scratch);
+    better(step_against(n, word), state, along, scratch)
+}
+
 // The smallest state that follows on a shortest way: the first part comes before the second, and then the smaller node.
-fn next_state(n: usize, words: &[u32], state: usize, scratch: &[u16]) -> usize {
+fn next_state(n: usize, words: &[u32], set: u32, state: usize, scratch: &[u16]) -> usize {
     let mut best: usize = 4096;
     let mut i = 0;
     while i < words.len() {
-        let word = words[i];
-        best = better(step_along(n, word), state, best, scratch);
-        best = better(step_against(n, word), state, best, scratch);
+        best = better_by(n, set, words[i], state, best, scratch);
         i += 1;
     }
     best
@@ -153,6 +169,7 @@ fn counted(n: usize, state: usize, first: u16) -> u16 {
 pub fn write_reason(
     n: usize,
     words: &[u32],
+    set: u32,
     x: usize,
     links: u16,
     scratch: &[u16],
@@ -164,7 +181,7 @@ pub fn write_reason(
     put_number(list, 2, node_of(n, x));
     while passed < links {
         passed += 1;
-        state = next_state(n, words, state, scratch);
+        state = next_state(n, words, set, state, scratch);
         put_number(list, passed as usize + 2, node_of(n, state));
         first = counted(n, state, first);
     }

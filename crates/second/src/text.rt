@@ -2,9 +2,9 @@
 use crate::check::is_kind;
 use crate::check::is_node;
 use crate::closure::answer;
+use crate::file::count_of;
+use crate::file::first_of;
 use crate::file::number_at;
-use crate::file::question_count;
-use crate::file::word_count;
 use crate::places::node;
 use crate::reply::Reply;
 use crate::rounds::scan_count;
@@ -101,8 +101,8 @@ fn put_answered(text: &mut [u8], at: usize, word: u32, count: u32) -> usize {
 }
 
 // The scan's count for a question about x.
-fn count_from(o: u32, k: u32, words: &[u32], x: u32) -> u32 {
-    let scan = scan_count(words, node(x), whole_budget(o, k));
+fn count_from(o: u32, k: u32, words: &[u32], set: u32, x: u32) -> u32 {
+    let scan = scan_count(words, set, node(x), whole_budget(o, k));
     scan.first
 }
 
@@ -111,6 +111,7 @@ fn question_line(
     o: u32,
     k: u32,
     words: &[u32],
+    set: u32,
     support: &[u8; 1048576],
     x: u32,
     y: u32,
@@ -125,7 +126,7 @@ fn question_line(
         text,
         end,
         answer(support, node(x), node(y)),
-        count_from(o, k, words, x),
+        count_from(o, k, words, set, x),
     )
 }
 
@@ -135,16 +136,27 @@ pub fn question_lines(
     o: u32,
     k: u32,
     words: &[u32],
+    set: u32,
     support: &[u8; 1048576],
     text: &mut [u8],
 ) -> usize {
-    let first = word_count(file) + 8;
-    let count = question_count(file);
+    let first = first_of(file, 2);
+    let count = count_of(file, 2);
     let mut end = 0;
     let mut i = 0;
     while i < count {
         let pair = number_at(file, first + i);
-        end = question_line(o, k, words, support, pair % 65536, pair / 65536, text, end);
+        end = question_line(
+            o,
+            k,
+            words,
+            set,
+            support,
+            pair % 65536,
+            pair / 65536,
+            text,
+            end,
+        );
         i += 1;
     }
     end

@@ -25,46 +25,46 @@ module _ {s : Reply} (r q : Reply) where
   leaves-two m l c d e f = (gives-one (e .0) (f .0), e .1 ∙ sym (f .1), e .2 ∙ sym (f .2))
 
 -- `strumelka_check_word`.
-pub check-word-unique : (o k w : ℕ) (r q : Reply) → r ≡ wordReply (checkWord o k w) → q ≡ wordReply (checkWord o k w) → r ≡ q
-check-word-unique o k w r q = gives-one r q
+pub given-check-word-unique : (o k w : ℕ) (r q : Reply) → r ≡ wordReply (checkWord o k w) → q ≡ wordReply (checkWord o k w) → r ≡ q
+given-check-word-unique o k w r q = gives-one r q
 
-module _ (o k : ℕ) (ws : List ℕ) (r q : Reply) where
+module _ (o k : ℕ) (ws : List ℕ) (set : ℕ) (r q : Reply) where
   -- `strumelka_check_net`.
-  pub check-net-unique : r ≡ checkedReply (checkNet o k ws) → q ≡ checkedReply (checkNet o k ws) → r ≡ q
-  check-net-unique = gives-one r q
+  pub given-check-net-unique : r ≡ checkedReply (checkNet o k ws set) → q ≡ checkedReply (checkNet o k ws set) → r ≡ q
+  given-check-net-unique = gives-one r q
 
   -- `strumelka_reason_check`.
-  pub reason-check-unique : (x y sign : ℕ) (list : List ℕ) → r ≡ verdictReply (verdict o k ws x y sign list) → q ≡ verdictReply (verdict o k ws x y sign list) → r ≡ q
-  reason-check-unique x y sign list = gives-one r q
+  pub given-reason-check-unique : (x y sign : ℕ) (list : List ℕ) → r ≡ verdictReply (verdict o k ws set x y sign list) → q ≡ verdictReply (verdict o k ws set x y sign list) → r ≡ q
+  given-reason-check-unique x y sign list = gives-one r q
 
   module _ (marks m l : List ℕ) where
     -- `strumelka_scan`.
-    pub scan-unique : (x budget : ℕ)
-        → (r ≡ scanReply (scanned o k ws x budget marks .answer)) × (m ≡ scanned o k ws x budget marks .marks)
-        → (q ≡ scanReply (scanned o k ws x budget marks .answer)) × (l ≡ scanned o k ws x budget marks .marks) → (r ≡ q) × (m ≡ l)
-    scan-unique x budget = leaves-one r q m l
+    pub given-scan-unique : (x budget : ℕ)
+        → (r ≡ scanReply (scanned o k ws set x budget marks .answer)) × (m ≡ scanned o k ws set x budget marks .marks)
+        → (q ≡ scanReply (scanned o k ws set x budget marks .answer)) × (l ≡ scanned o k ws set x budget marks .marks) → (r ≡ q) × (m ≡ l)
+    given-scan-unique x budget = leaves-one r q m l
 
     -- `strumelka_question`.
-    pub question-unique : (x y : ℕ)
-        → (r ≡ askedReply (questioned o k ws x y marks .answer)) × (m ≡ questioned o k ws x y marks .marks)
-        → (q ≡ askedReply (questioned o k ws x y marks .answer)) × (l ≡ questioned o k ws x y marks .marks) → (r ≡ q) × (m ≡ l)
-    question-unique x y = leaves-one r q m l
+    pub given-question-unique : (x y : ℕ)
+        → (r ≡ askedReply (questioned o k ws set x y marks .answer)) × (m ≡ questioned o k ws set x y marks .marks)
+        → (q ≡ askedReply (questioned o k ws set x y marks .answer)) × (l ≡ questioned o k ws set x y marks .marks) → (r ≡ q) × (m ≡ l)
+    given-question-unique x y = leaves-one r q m l
 
     -- `strumelka_clash`.
-    pub clash-unique : (r ≡ clashedReply (clashedBy o k ws marks .answer)) × (m ≡ clashedBy o k ws marks .marks)
-        → (q ≡ clashedReply (clashedBy o k ws marks .answer)) × (l ≡ clashedBy o k ws marks .marks) → (r ≡ q) × (m ≡ l)
-    clash-unique = leaves-one r q m l
+    pub given-clash-unique : (r ≡ clashedReply (clashedBy o k ws set marks .answer)) × (m ≡ clashedBy o k ws set marks .marks)
+        → (q ≡ clashedReply (clashedBy o k ws set marks .answer)) × (l ≡ clashedBy o k ws set marks .marks) → (r ≡ q) × (m ≡ l)
+    given-clash-unique = leaves-one r q m l
 
     -- `strumelka_completion`: c and d the lists left.
-    pub completion-unique : (list c d : List ℕ)
-        → (r ≡ completedReply (completedBy o k ws marks list .answer)) × (m ≡ completedBy o k ws marks list .marks) × (c ≡ completedBy o k ws marks list .list)
-        → (q ≡ completedReply (completedBy o k ws marks list .answer)) × (l ≡ completedBy o k ws marks list .marks) × (d ≡ completedBy o k ws marks list .list)
+    pub given-completion-unique : (list c d : List ℕ)
+        → (r ≡ completedReply (completedBy o k ws set marks list .answer)) × (m ≡ completedBy o k ws set marks list .marks) × (c ≡ completedBy o k ws set marks list .list)
+        → (q ≡ completedReply (completedBy o k ws set marks list .answer)) × (l ≡ completedBy o k ws set marks list .marks) × (d ≡ completedBy o k ws set marks list .list)
         → (r ≡ q) × (m ≡ l) × (c ≡ d)
-    completion-unique list c d = leaves-two r q m l c d
+    given-completion-unique list c d = leaves-two r q m l c d
 
   -- `strumelka_reason`: m and l the scratches, c and d the lists left.
-  pub reason-unique : (x y sign : ℕ) (scratch list m l c d : List ℕ)
-      → (r ≡ reasonedReply (reasoned o k ws x y sign scratch list .answer)) × (m ≡ reasoned o k ws x y sign scratch list .scratch) × (c ≡ reasoned o k ws x y sign scratch list .list)
-      → (q ≡ reasonedReply (reasoned o k ws x y sign scratch list .answer)) × (l ≡ reasoned o k ws x y sign scratch list .scratch) × (d ≡ reasoned o k ws x y sign scratch list .list)
+  pub given-reason-unique : (x y sign : ℕ) (scratch list m l c d : List ℕ)
+      → (r ≡ reasonedReply (reasoned o k ws set x y sign scratch list .answer)) × (m ≡ reasoned o k ws set x y sign scratch list .scratch) × (c ≡ reasoned o k ws set x y sign scratch list .list)
+      → (q ≡ reasonedReply (reasoned o k ws set x y sign scratch list .answer)) × (l ≡ reasoned o k ws set x y sign scratch list .scratch) × (d ≡ reasoned o k ws set x y sign scratch list .list)
       → (r ≡ q) × (m ≡ l) × (c ≡ d)
-  reason-unique x y sign scratch list m l c d = leaves-two r q m l c d
+  given-reason-unique x y sign scratch list m l c d = leaves-two r q m l c d

@@ -36,10 +36,10 @@ pub extern "C" fn strumelka_check_word(o: u32, k: u32, word: u32) -> Reply
 
 // The check of a net.
 #[no_mangle]
-pub extern "C" fn strumelka_check_net(o: u32, k: u32, words: &[u32]) -> Reply
-    ensures { λ r. ⌜ r ≡ checkedReply (checkNet o k (now (words .entry))) ⌝ }
+pub extern "C" fn strumelka_check_net(o: u32, k: u32, words: &[u32], set: u32) -> Reply
+    ensures { λ r. ⌜ r ≡ checkedReply (checkNet o k (now (words .entry)) set) ⌝ }
 {
-    checked_given(check_net(o, k, words))
+    checked_given(check_net(o, k, words, set))
 }
 
 // The scan from node `start`, object or kind, within `budget` rounds.
@@ -48,14 +48,15 @@ pub extern "C" fn strumelka_scan(
     o: u32,
     k: u32,
     words: &[u32],
+    set: u32,
     start: u32,
     budget: u32,
     marks: &mut [u8],
 ) -> Reply
-    ensures { λ r. ⌜ (r ≡ scanReply (scanned o k (now (words .entry)) start budget (now (marks .entry)) .answer))
-        × (now (marks .exit) ≡ scanned o k (now (words .entry)) start budget (now (marks .entry)) .marks) ⌝ }
+    ensures { λ r. ⌜ (r ≡ scanReply (scanned o k (now (words .entry)) set start budget (now (marks .entry)) .answer))
+        × (now (marks .exit) ≡ scanned o k (now (words .entry)) set start budget (now (marks .entry)) .marks) ⌝ }
 {
-    scanned_given(scan(o, k, words, start, budget, marks))
+    scanned_given(scan(o, k, words, set, start, budget, marks))
 }
 
 // The question whether `x` is `y`.
@@ -64,14 +65,15 @@ pub extern "C" fn strumelka_question(
     o: u32,
     k: u32,
     words: &[u32],
+    set: u32,
     x: u32,
     y: u32,
     marks: &mut [u8],
 ) -> Reply
-    ensures { λ r. ⌜ (r ≡ askedReply (questioned o k (now (words .entry)) x y (now (marks .entry)) .answer))
-        × (now (marks .exit) ≡ questioned o k (now (words .entry)) x y (now (marks .entry)) .marks) ⌝ }
+    ensures { λ r. ⌜ (r ≡ askedReply (questioned o k (now (words .entry)) set x y (now (marks .entry)) .answer))
+        × (now (marks .exit) ≡ questioned o k (now (words .entry)) set x y (now (marks .entry)) .marks) ⌝ }
 {
-    asked_given(ask_question(o, k, words, x, y, marks))
+    asked_given(ask_question(o, k, words, set, x, y, marks))
 }
 
 // The completion, with room for marks and for the list.
@@ -80,23 +82,30 @@ pub extern "C" fn strumelka_completion(
     o: u32,
     k: u32,
     words: &[u32],
+    set: u32,
     marks: &mut [u8],
     list: &mut [u32],
 ) -> Reply
-    ensures { λ r. ⌜ (r ≡ completedReply (completedBy o k (now (words .entry)) (now (marks .entry)) (now (list .entry)) .answer))
-        × (now (marks .exit) ≡ completedBy o k (now (words .entry)) (now (marks .entry)) (now (list .entry)) .marks)
-        × (now (list .exit) ≡ completedBy o k (now (words .entry)) (now (marks .entry)) (now (list .entry)) .list) ⌝ }
+    ensures { λ r. ⌜ (r ≡ completedReply (completedBy o k (now (words .entry)) set (now (marks .entry)) (now (list .entry)) .answer))
+        × (now (marks .exit) ≡ completedBy o k (now (words .entry)) set (now (marks .entry)) (now (list .entry)) .marks)
+        × (now (list .exit) ≡ completedBy o k (now (words .entry)) set (now (marks .entry)) (now (list .entry)) .list) ⌝ }
 {
-    completed_given(complete_net(o, k, words, marks, list))
+    completed_given(complete_net(o, k, words, set, marks, list))
 }
 
 // The clash test.
 #[no_mangle]
-pub extern "C" fn strumelka_clash(o: u32, k: u32, words: &[u32], marks: &mut [u8]) -> Reply
-    ensures { λ r. ⌜ (r ≡ clashedReply (clashedBy o k (now (words .entry)) (now (marks .entry)) .answer))
-        × (now (marks .exit) ≡ clashedBy o k (now (words .entry)) (now (marks .entry)) .marks) ⌝ }
+pub extern "C" fn strumelka_clash(
+    o: u32,
+    k: u32,
+    words: &[u32],
+    set: u32,
+    marks: &mut [u8],
+) -> Reply
+    ensures { λ r. ⌜ (r ≡ clashedReply (clashedBy o k (now (words .entry)) set (now (marks .entry)) .answer))
+        × (now (marks .exit) ≡ clashedBy o k (now (words .entry)) set (now (marks .entry)) .marks) ⌝ }
 {
-    clashed_given(find_clash(o, k, words, marks))
+    clashed_given(find_clash(o, k, words, set, marks))
 }
 
 // The shortest reason for x → y (`sign` 0) or x ↛ y (`sign` 1), with room for distances and for the list.
@@ -105,17 +114,18 @@ pub extern "C" fn strumelka_reason(
     o: u32,
     k: u32,
     words: &[u32],
+    set: u32,
     x: u32,
     y: u32,
     sign: u32,
     scratch: &mut [u16],
     list: &mut [u16],
 ) -> Reply
-    ensures { λ r. ⌜ (r ≡ reasonedReply (reasoned o k (now (words .entry)) x y sign (now (scratch .entry)) (now (list .entry)) .answer))
-        × (now (scratch .exit) ≡ reasoned o k (now (words .entry)) x y sign (now (scratch .entry)) (now (list .entry)) .scratch)
-        × (now (list .exit) ≡ reasoned o k (now (words .entry)) x y sign (now (scratch .entry)) (now (list .entry)) .list) ⌝ }
+    ensures { λ r. ⌜ (r ≡ reasonedReply (reasoned o k (now (words .entry)) set x y sign (now (scratch .entry)) (now (list .entry)) .answer))
+        × (now (scratch .exit) ≡ reasoned o k (now (words .entry)) set x y sign (now (scratch .entry)) (now (list .entry)) .scratch)
+        × (now (list .exit) ≡ reasoned o k (now (words .entry)) set x y sign (now (scratch .entry)) (now (list .entry)) .list) ⌝ }
 {
-    reasoned_given(find_reason(o, k, words, x, y, sign, scratch, list))
+    reasoned_given(find_reason(o, k, words, set, x, y, sign, scratch, list))
 }
 
 // The check of a reason for x → y (`sign` 0) or x ↛ y (`sign` 1).
@@ -124,12 +134,13 @@ pub extern "C" fn strumelka_reason_check(
     o: u32,
     k: u32,
     words: &[u32],
+    set: u32,
     x: u32,
     y: u32,
     sign: u32,
     list: &[u16],
 ) -> Reply
-    ensures { λ r. ⌜ r ≡ verdictReply (verdict o k (now (words .entry)) x y sign (now (list .entry))) ⌝ }
+    ensures { λ r. ⌜ r ≡ verdictReply (verdict o k (now (words .entry)) set x y sign (now (list .entry))) ⌝ }
 {
-    verdict_given(check_reason(o, k, words, x, y, sign, list))
+    verdict_given(check_reason(o, k, words, set, x, y, sign, list))
 }

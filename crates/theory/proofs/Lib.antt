@@ -4,4 +4,5 @@ pub mod support
 pub mod machine
 pub mod completion
 pub mod reason
+pub mod origins
 pub mod Readings

@@ -8,6 +8,7 @@ pub mod Growth
 pub mod Scans
 pub mod Forward
 pub mod Downscan
+pub mod Origins
 pub mod Completion
 pub mod Reasons
 pub mod Searches

@@ -1,39 +1,16 @@
--- `answer_net`: the check decides between the lines and the report.
+-- `answer_net`: the text by what `check_net` gave.
 use Rattle.text_field.proofs.Writing.{wrote-as}
-use Rattle.ask_net.proofs.NetText.{net-lines, net-report}
+use Rattle.ask_net.proofs.NetText.{text-as}
 use borrow.Author.Needs.{needs}
 use Rattle.ask_net.proofs.answer_net.Statement.{statement}
 use Rattle.ask_net.proofs.answer_net.Tie as tie
 
 returns : tie.Need-returns
 returns c =
-    let lines = c .before .before in
-    let net = lines .before .before in
-    let checked = net .before .before in
+    let put = c .before .before in
+    let checked = put .before .before in
     let a = checked .before .before .before .before .args in
-    wrote-as (net-lines (a .o) (a .k) (a .words .now) (checked .check-net .ensures) (a .questions .now) (net .enum-told .given .1)) (lines .put-lines .ensures)
-
-returns-2 : tie.Need-returns-2
-returns-2 c =
-    let report = c .before .before in
-    let given = report .before .before in
-    let net = given .before .before in
-    let checked = net .before .before in
-    let a = checked .before .before .before .before .args in
-    wrote-as (net-report (a .o) (a .k) (a .words .now) (checked .check-net .ensures) (a .questions .now) (net .checked .given .1) (given .refusal-given .ensures))
-    (report .put-refused-net .ensures)
+    wrote-as (text-as (a .o) (a .k) (a .words .now) (a .set) (checked .check-net .ensures) (a .questions .now)) (put .put-net .ensures)
 
 pub answer-net-spec : {M : Type 1} → statement M
-answer-net-spec =
-    tie.close
-    (tie.spec
-    (search needs)
-    (search needs)
-    (search needs)
-    (search needs)
-    (search needs)
-    (search needs)
-    (search needs)
-    returns
-    (search needs)
-    returns-2)
+answer-net-spec = tie.close (tie.spec (λ c κs. search needs) (λ c κs. search needs) (λ c. search needs) returns)

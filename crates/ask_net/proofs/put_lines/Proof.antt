@@ -13,10 +13,10 @@ use Rattle.ask_net.proofs.put_lines.Statement.{statement}
 use Rattle.ask_net.proofs.put_lines.Tie as tie
 
 abbrev Inv-loop : tie.InvT-loop
-Inv-loop o k words questions text₀ marks₀ at₀ i₀ text marks at i = (i ≤ length questions / 4) × ((length marks ≡ 1024) × ((at ≤ i * 31) × Wrote (linesOf o k words i questions) text₀ text at))
+Inv-loop o k words set questions text₀ marks₀ at₀ i₀ text marks at i = (i ≤ length questions / 4) × ((length marks ≡ 1024) × ((at ≤ i * 31) × Wrote (linesOf o k words set i questions) text₀ text at))
 
 abbrev μ-loop : tie.MeasureT-loop
-μ-loop o k words questions text₀ marks₀ at₀ i₀ text marks at i = length questions / 4 - i
+μ-loop o k words set questions text₀ marks₀ at₀ i₀ text marks at i = length questions / 4 - i
 
 loop-holds : tie.Need-loop-holds Inv-loop μ-loop
 unfolding linesOf
@@ -24,7 +24,7 @@ loop-holds c = (omega arith, (length-replicate {A = ℕ} 1024 0, (omega arith, r
 
 -- The lines so far fit.
 fits : (c : tie.At-loop Inv-loop μ-loop)
-    → length (linesOf (c .before .before .before .before .args .o) (c .before .before .before .before .args .k) (c .before .before .before .before .args .words .now) (c .loop .i) (c .before .before .before .before .args .questions .now))
+    → length (linesOf (c .before .before .before .before .args .o) (c .before .before .before .before .args .k) (c .before .before .before .before .args .words .now) (c .before .before .before .before .args .set) (c .loop .i) (c .before .before .before .before .args .questions .now))
     ≤ length (c .before .before .before .before .args .text .now)
 fits c = omega (arith, c .loop .inv .1 .1 .1 .size)
 
@@ -87,9 +87,9 @@ loop-again c =
         omega arith,
         (
           omega arith,
-          line-written (a .o) (a .k) (a .words .now) (a .questions .now) (a .text .now) (turn .before .loop .i) (inv .1 .1 .1) (fits (turn .before))
+          line-written (a .o) (a .k) (a .words .now) (a .set) (a .questions .now) (a .text .now) (turn .before .loop .i) (inv .1 .1 .1) (fits (turn .before))
               (asking .before .before .before .u16-at .ensures .0) (asking .before .before .u16-at2 .ensures .0)
-              (asked-blank (a .o) (a .k) (a .words .now) _ _ (turn .before .loop .marks) (inv .1 .0) (asking .ask-question .ensures)) (c .before .before .put-line .ensures .0),
+              (asked-blank (a .o) (a .k) (a .words .now) (a .set) _ _ (turn .before .loop .marks) (inv .1 .0) (asking .ask-question .ensures)) (c .before .before .put-line .ensures .0),
         ),
       ),
     )
@@ -100,7 +100,7 @@ same-length c = omega (arith, room (c .before .loop .inv .1 .1 .1) (fits (c .bef
 returns : tie.Need-returns Inv-loop μ-loop
 returns c =
     let a = c .before .before .before .before .before .args in
-    lines-written (a .o) (a .k) (a .words .now) (a .questions .now) (a .text .now) (omega arith) (c .before .loop .inv .1 .1 .1)
+    lines-written (a .o) (a .k) (a .words .now) (a .set) (a .questions .now) (a .text .now) (omega arith) (c .before .loop .inv .1 .1 .1)
 
 pub put-lines-spec : {M : Type 1} → statement M
 put-lines-spec =

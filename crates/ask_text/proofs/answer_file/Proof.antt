@@ -10,13 +10,13 @@ use Rattle.ask_text.proofs.answer_file.Tie as tie
 
 answer-bodies-requires : tie.Need-answer-bodies-requires
 answer-bodies-requires c κs =
-    let read = c .before .before .before .before in
+    let read = c .before .before .before .before .before in
     let bodies = handed _ (read .before .before .before .read-contents .ensures) now (read .read-bodies .result) (record { ptr = (0, 0); name = 0; now = [] }) (read .before .enum-told .given .1) (read .read-bodies .ensures) in
-    (bodies .nodes-room, (bodies .words-room, (omega arith, omega arith)))
+    (bodies .nodes-room, (bodies .words-room, (bodies .set-room, (omega arith, omega (arith, bodies .questions-room)))))
 
 returns : tie.Need-returns
 returns c =
-    let read = c .before .before .before .before .before in
+    let read = c .before .before .before .before .before .before in
     let bodies = handed _ (read .before .before .before .read-contents .ensures) now (read .read-bodies .result) (record { ptr = (0, 0); name = 0; now = [] }) (read .before .enum-told .given .1) (read .read-bodies .ensures) in
     let all = wrote-as (bodies .text-is) (c .answer-bodies .ensures) in
     (all .list, all .size)
@@ -31,6 +31,7 @@ pub answer-file-spec : {M : Type 1} → statement M
 answer-file-spec =
     tie.close
     (tie.spec
+    (search needs)
     (search needs)
     (search needs)
     (search needs)

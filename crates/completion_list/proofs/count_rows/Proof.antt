@@ -4,6 +4,7 @@ use mathlib.Core.Path.{_≡_, refl, ap, _∙_}
 use native.Mathlib.Omega.{arith}
 use borrow.Author.Needs.{needs}
 use lib.ListN.{length, drop}
+use Rattle.theory.specs.Origins.{chosen}
 use Rattle.theory.specs.Completion.{fullMarks, row, rows, complete}
 use Rattle.completion_cell.proofs.Rows.{row-short}
 use Rattle.completion_list.proofs.Listing.{read-row, rows-all, rows-go, rows-end}
@@ -11,17 +12,17 @@ use Rattle.completion_list.proofs.count_rows.Statement.{statement}
 use Rattle.completion_list.proofs.count_rows.Tie as tie
 
 abbrev Inv-loop : tie.InvT-loop
-Inv-loop o k n words marks₀ objects nodes size₀ x₀ marks size x =
-    (x ≤ n) × (length marks ≡ length marks₀) × (drop n marks ≡ drop n marks₀) × (size ≤ 2048 * x) × (length (complete o k words) ≡ size + length (rows o k words x (n - x)))
+Inv-loop o k n words set marks₀ objects nodes size₀ x₀ marks size x =
+    (x ≤ n) × (length marks ≡ length marks₀) × (drop n marks ≡ drop n marks₀) × (size ≤ 2048 * x) × (length (complete o k (chosen set words)) ≡ size + length (rows o k (chosen set words) x (n - x)))
 
 abbrev μ-loop : tie.MeasureT-loop
-μ-loop o k n words marks₀ objects nodes size₀ x₀ marks size x = n - x
+μ-loop o k n words set marks₀ objects nodes size₀ x₀ marks size x = n - x
 
 -- What the count of a row is.
 counted : (c : tie.After-count-row Inv-loop μ-loop)
     → let at = c .before .before .before .before .before .before .before in
     let a = at .before .before .before .args in
-    c .count-row .result ≡ length (row 0 (fullMarks (a .o) (a .k) (a .words .now) (at .loop .x)) (a .o) (a .k))
+    c .count-row .result ≡ length (row 0 (fullMarks (a .o) (a .k) (chosen (a .set) (a .words .now)) (at .loop .x)) (a .o) (a .k))
 counted c =
     let scanned = c .before .before .before .before in
     let at = scanned .before .before .before in
@@ -29,7 +30,7 @@ counted c =
     let a = s .args in
     c .count-row .ensures
     ∙ ap length
-    (read-row (a .o) (a .k) (a .n) (a .words .now) (at .loop .x) (scanned .full-scan .last .1 .1 .1 .1 .1 .0) (s .pre .1 .0) (scanned .full-scan .ensures .1 .0) 0)
+    (read-row (a .o) (a .k) (a .n) (chosen (a .set) (a .words .now)) (at .loop .x) (scanned .full-scan .last .1 .1 .1 .1 .1 .1 .0) (s .pre .1 .0) (scanned .full-scan .ensures .1 .0) 0)
 
 -- A row has at most 2,048 words, and there are at most 1,024 nodes.
 few : (c : tie.After-count-row Inv-loop μ-loop) → (c .count-row .result ≤ 2048) × (c .before .before .before .before .before .before .before .before .before .before .args .n ≤ 1024)
@@ -37,7 +38,7 @@ few c =
     let at = c .before .before .before .before .before .before .before in
     let s = at .before .before .before in
     let a = s .args in (
-      omega (arith, counted c, row-short 0 (fullMarks (a .o) (a .k) (a .words .now) (at .loop .x)) (a .o) (a .k), s .pre .0 .few),
+      omega (arith, counted c, row-short 0 (fullMarks (a .o) (a .k) (chosen (a .set) (a .words .now)) (at .loop .x)) (a .o) (a .k), s .pre .0 .few),
       omega (arith, s .pre .0 .few, s .pre .1 .0),
     )
 
@@ -48,7 +49,7 @@ loop-holds : tie.Need-loop-holds Inv-loop μ-loop
 loop-holds c =
     let s = c .before .before in
     let a = s .args in
-    (omega arith, refl, refl, omega arith, omega (arith, ap length (rows-all (a .o) (a .k) (a .words .now) (a .n - 0) (omega (arith, s .pre .1 .0)))))
+    (omega arith, refl, refl, omega arith, omega (arith, ap length (rows-all (a .o) (a .k) (chosen (a .set) (a .words .now)) (a .n - 0) (omega (arith, s .pre .1 .0)))))
 
 full-scan-requires : tie.Need-full-scan-requires Inv-loop μ-loop
 full-scan-requires c κs =
@@ -78,7 +79,7 @@ loop-again c =
       left .1 .1 ∙ at .loop .inv .1,
       left .1 .0 ∙ at .loop .inv .2,
       omega (arith, at .loop .inv .3, few c),
-      omega (arith, at .loop .inv .4, counted c, rows-go (a .o) (a .k) (a .words .now) (at .loop .x) (a .n) (inside .loop-test .taken)),
+      omega (arith, at .loop .inv .4, counted c, rows-go (a .o) (a .k) (chosen (a .set) (a .words .now)) (at .loop .x) (a .n) (inside .loop-test .taken)),
     )
 
 same-length : tie.Need-same-length Inv-loop μ-loop
@@ -88,7 +89,7 @@ returns : tie.Need-returns Inv-loop μ-loop
 returns c =
     let l = c .before .loop in
     let a = c .before .before .before .before .args in
-    (omega (arith, l .inv .4, rows-end (a .o) (a .k) (a .words .now) (l .x) (a .n) (c .loop-test .left)), (l .inv .2, l .inv .1))
+    (omega (arith, l .inv .4, rows-end (a .o) (a .k) (chosen (a .set) (a .words .now)) (l .x) (a .n) (c .loop-test .left)), (l .inv .2, l .inv .1))
 
 pub count-rows-spec : {M : Type 1} → statement M
 count-rows-spec =

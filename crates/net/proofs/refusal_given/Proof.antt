@@ -23,6 +23,9 @@ returns-4 c = carry-reply refusalReply (c .before .enum-told3 .given .1) (c .rep
 returns-5 : tie.Need-returns-5
 returns-5 c = carry-reply refusalReply (c .before .enum-told4 .given .1) (c .reply-of5 .ensures)
 
+returns-6 : tie.Need-returns-6
+returns-6 c = carry-reply refusalReply (c .before .enum-told5 .given .1) (c .reply-of6 .ensures)
+
 pub refusal-given-spec : {M : Type 1} → statement M
 refusal-given-spec =
     tie.close
@@ -38,8 +41,11 @@ refusal-given-spec =
     (search needs)
     (search needs)
     (search needs)
+    (search needs)
+    (search needs)
     returns
     returns-2
     returns-3
     returns-4
-    returns-5)
+    returns-5
+    returns-6)

@@ -1,6 +1,8 @@
 -- However the scan answers, what it leaves is that of the definition.
 use mathlib.Core.Path.{sym, ap, _∙_}
 use borrow.Author.Needs.{needs}
+use Rattle.theory.specs.Origins.{chosen}
+use Rattle.theory.proofs.origins.Statements.{chosen-net}
 use Rattle.question.proofs.FullScans.{net-inside, countOf, full-left}
 use Rattle.question.proofs.full_scan.Statement.{statement}
 use Rattle.question.proofs.full_scan.Tie as tie
@@ -15,7 +17,7 @@ returns c =
     let s = c .before .before .before .before .before .before .before .before .before in
     let a = s .args in
     let t =
-    full-left (a .o) (a .k) (a .n) (a .words .now) (s .pre .0) (s .pre .1 .0) (a .x) (s .pre .1 .1 .0) (a .marks .now) (s .pre .1 .1 .1)
+    full-left (a .o) (a .k) (a .n) (chosen (a .set) (a .words .now)) (chosen-net (a .set) (a .o) (a .k) (a .words .now) (s .pre .0)) (s .pre .1 .0) (a .x) (s .pre .1 .1 .0) (a .marks .now) (s .pre .1 .1 .1)
     (c .before .before .before .before .before .scan-net .ensures) in
     (sym (ap countOf (c .before .ran .given .1)) ∙ t .0, t .1)
 
@@ -24,7 +26,7 @@ returns-2 c =
     let s = c .before .before .before .before .before .before .before .before .before in
     let a = s .args in
     let t =
-    full-left (a .o) (a .k) (a .n) (a .words .now) (s .pre .0) (s .pre .1 .0) (a .x) (s .pre .1 .1 .0) (a .marks .now) (s .pre .1 .1 .1)
+    full-left (a .o) (a .k) (a .n) (chosen (a .set) (a .words .now)) (chosen-net (a .set) (a .o) (a .k) (a .words .now) (s .pre .0)) (s .pre .1 .0) (a .x) (s .pre .1 .1 .0) (a .marks .now) (s .pre .1 .1 .1)
     (c .before .before .before .before .before .scan-net .ensures) in
     (sym (ap countOf (c .before .ran2 .given .1)) ∙ t .0, t .1)
 
@@ -33,7 +35,7 @@ returns-3 c =
     let s = c .before .before .before .before .before .before .before .before in
     let a = s .args in
     let t =
-    full-left (a .o) (a .k) (a .n) (a .words .now) (s .pre .0) (s .pre .1 .0) (a .x) (s .pre .1 .1 .0) (a .marks .now) (s .pre .1 .1 .1)
+    full-left (a .o) (a .k) (a .n) (chosen (a .set) (a .words .now)) (chosen-net (a .set) (a .o) (a .k) (a .words .now) (s .pre .0)) (s .pre .1 .0) (a .x) (s .pre .1 .1 .0) (a .marks .now) (s .pre .1 .1 .1)
     (c .before .before .before .before .scan-net .ensures) in
     (sym (ap countOf (c .enum-told .given .1)) ∙ t .0, t .1)
 

@@ -4,6 +4,7 @@ use native.Mathlib.Omega.{arith}
 use lib.ListN.{getD}
 use Rattle.theory.specs.Words.{signAt}
 use Rattle.theory.specs.Reasons.{never}
+use Rattle.theory.specs.Origins.{chosen}
 use Rattle.reason_search.proofs.Opening.{at-place}
 use Rattle.reason.proofs.Written.{count-most, rest-room, from-unsupported, from-short, from-done}
 use Rattle.reason.proofs.write_reason.Statement.{statement}
@@ -13,7 +14,7 @@ returns : tie.Need-returns
 returns c =
     let s = c .before .before .before .before .before in
     let a = s .args in
-    from-unsupported (a .n) (signAt (a .sign)) (a .words .now) (a .x) (a .places .now) (a .list .now) (omega (arith, s .pre .1 .0, s .pre .1 .1 .1)) (c .if1 .taken)
+    from-unsupported (a .n) (signAt (a .sign)) (chosen (a .set) (a .words .now)) (a .x) (a .places .now) (a .list .now) (omega (arith, s .pre .1 .0, s .pre .1 .1 .1)) (c .if1 .taken)
 
 cast-links : tie.Need-cast-links
 cast-links c =
@@ -39,7 +40,7 @@ returns-2 : tie.Need-returns-2
 returns-2 c =
     let s = c .before .before .before .before .before .before in
     let a = s .args in
-    from-short (a .n) (signAt (a .sign)) (a .words .now) (a .x) (a .places .now) (a .list .now) (omega (arith, s .pre .1 .0, s .pre .1 .1 .1)) (c .before .if1 .left) (c .if2 .taken)
+    from-short (a .n) (signAt (a .sign)) (chosen (a .set) (a .words .now)) (a .x) (a .places .now) (a .list .now) (omega (arith, s .pre .1 .0, s .pre .1 .1 .1)) (c .before .if1 .left) (c .if2 .taken)
 
 write-nodes-requires : tie.Need-write-nodes-requires
 write-nodes-requires c κs =
@@ -57,7 +58,7 @@ add-write-head c =
     let a = s .args in
     let small = c .before .before .before .before .before .before .shared-slice-known3 .given (a .x) in
     let far = c .before .before .before .before .before .if1 .left in
-    let most = count-most (a .n) (signAt (a .sign)) (a .words .now) (a .x) (a .places .now) (a .list .now) (omega (arith, s .pre .1 .0, s .pre .1 .1 .1)) (c .before .before .write-nodes .ensures .0) in
+    let most = count-most (a .n) (signAt (a .sign)) (chosen (a .set) (a .words .now)) (a .x) (a .places .now) (a .list .now) (omega (arith, s .pre .1 .0, s .pre .1 .1 .1)) (c .before .before .write-nodes .ensures .0) in
     omega arith
 
 cast-write-head : tie.Need-cast-write-head
@@ -66,7 +67,7 @@ cast-write-head c =
     let a = s .args in
     let small = c .before .before .before .before .before .before .shared-slice-known3 .given (a .x) in
     let far = c .before .before .before .before .before .if1 .left in
-    let most = count-most (a .n) (signAt (a .sign)) (a .words .now) (a .x) (a .places .now) (a .list .now) (omega (arith, s .pre .1 .0, s .pre .1 .1 .1)) (c .before .before .write-nodes .ensures .0) in
+    let most = count-most (a .n) (signAt (a .sign)) (chosen (a .set) (a .words .now)) (a .x) (a .places .now) (a .list .now) (omega (arith, s .pre .1 .0, s .pre .1 .1 .1)) (c .before .before .write-nodes .ensures .0) in
     omega arith
 
 sub-write-head : tie.Need-sub-write-head
@@ -75,7 +76,7 @@ sub-write-head c =
     let a = s .args in
     let small = c .before .before .before .before .before .before .shared-slice-known3 .given (a .x) in
     let far = c .before .before .before .before .before .if1 .left in
-    let most = count-most (a .n) (signAt (a .sign)) (a .words .now) (a .x) (a .places .now) (a .list .now) (omega (arith, s .pre .1 .0, s .pre .1 .1 .1)) (c .before .before .write-nodes .ensures .0) in
+    let most = count-most (a .n) (signAt (a .sign)) (chosen (a .set) (a .words .now)) (a .x) (a .places .now) (a .list .now) (omega (arith, s .pre .1 .0, s .pre .1 .1 .1)) (c .before .before .write-nodes .ensures .0) in
     omega arith
 
 cast-write-head-2 : tie.Need-cast-write-head-2
@@ -84,7 +85,7 @@ cast-write-head-2 c =
     let a = s .args in
     let small = c .before .before .before .before .before .before .shared-slice-known3 .given (a .x) in
     let far = c .before .before .before .before .before .if1 .left in
-    let most = count-most (a .n) (signAt (a .sign)) (a .words .now) (a .x) (a .places .now) (a .list .now) (omega (arith, s .pre .1 .0, s .pre .1 .1 .1)) (c .before .before .write-nodes .ensures .0) in
+    let most = count-most (a .n) (signAt (a .sign)) (chosen (a .set) (a .words .now)) (a .x) (a .places .now) (a .list .now) (omega (arith, s .pre .1 .0, s .pre .1 .1 .1)) (c .before .before .write-nodes .ensures .0) in
     omega arith
 
 returns-3 : tie.Need-returns-3
@@ -92,7 +93,7 @@ returns-3 c =
     let s = c .before .before .before .before .before .before .before .before .before .before .before .before .before .before in
     let a = s .args in
     let f = c .before .before .before .before .before .before .write-nodes in
-    from-done (a .n) (signAt (a .sign)) (a .words .now) (a .x) (a .places .now) (a .list .now) (omega (arith, s .pre .1 .0, s .pre .1 .1 .1)) (c .before .before .before .before .before .before .before .before .before .if1 .left) (c .before .before .before .before .before .before .before .before .if2 .left) (f .ensures .0) (f .ensures .1) (c .before .before .write-head .ensures)
+    from-done (a .n) (signAt (a .sign)) (chosen (a .set) (a .words .now)) (a .x) (a .places .now) (a .list .now) (omega (arith, s .pre .1 .0, s .pre .1 .1 .1)) (c .before .before .before .before .before .before .before .before .before .if1 .left) (c .before .before .before .before .before .before .before .before .if2 .left) (f .ensures .0) (f .ensures .1) (c .before .before .write-head .ensures)
 
 pub write-reason-spec : {M : Type 1} → statement M
 write-reason-spec =

@@ -7,6 +7,9 @@ use Rattle.reason_check.proofs.check_list.Tie as tie
 returns : tie.Need-returns
 returns c = simp (sym (c .before .is-bad-statement .ensures) ∙ c .if1 .taken)
 
+is-path-requires : tie.Need-is-path-requires
+is-path-requires c κs = c .before .before .before .before .pre
+
 returns-2 : tie.Need-returns-2
 returns-2 c =
     simp
@@ -19,4 +22,4 @@ returns-3 c =
 
 pub check-list-spec : {M : Type 1} → statement M
 check-list-spec =
-    tie.close (tie.spec (search needs) returns (search needs) returns-2 returns-3)
+    tie.close (tie.spec (search needs) returns is-path-requires returns-2 returns-3)

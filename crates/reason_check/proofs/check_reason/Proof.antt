@@ -1,6 +1,8 @@
 -- The check's refusal is passed on, and over its net the list is checked.
 use mathlib.Core.Path.{sym, _∙_}
 use borrow.Author.Needs.{needs}
+use Rattle.theory.specs.Origins.{chosen}
+use Rattle.net.proofs.NetCheck.{chosen-checked}
 use Rattle.net.proofs.OnNet.{passed-on, gone-on}
 use Rattle.reason_check.specs.Table.{checkClauses, checkDone}
 use Rattle.reason_check.specs.declared.Verdict.the-variants.{Refused}
@@ -12,16 +14,23 @@ returns c =
     let net = c .before in
     let checked = net .before .before in
     let a = checked .before .before .before .args in
-    passed-on Refused (a .o) (a .k) (a .words .now) (checkClauses (a .o) (a .x) (a .y) (a .sign))
-    (λ _. checkDone (a .o) (a .k) (a .words .now) (a .x) (a .y) (a .sign) (a .list .now)) (sym (checked .check-net .ensures) ∙ net .net .given .1)
+    passed-on Refused (a .o) (a .k) (a .words .now) (a .set) (checkClauses (a .o) (a .x) (a .y) (a .sign))
+    (λ _. checkDone (a .o) (a .k) (chosen (a .set) (a .words .now)) (a .x) (a .y) (a .sign) (a .list .now)) (sym (checked .check-net .ensures) ∙ net .net .given .1)
+
+check-list-requires : tie.Need-check-list-requires
+check-list-requires c κs =
+    let net = c .before in
+    let checked = net .before .before in
+    let a = checked .before .before .before .args in
+    chosen-checked (a .o) (a .k) (a .words .now) (a .set) (sym (checked .check-net .ensures) ∙ net .net2 .given .1) .1
 
 returns-2 : tie.Need-returns-2
 returns-2 c =
     let net = c .before .before in
     let checked = net .before .before in
     let a = checked .before .before .before .args in
-    gone-on Refused (a .o) (a .k) (a .words .now) (checkClauses (a .o) (a .x) (a .y) (a .sign))
-    (λ _. checkDone (a .o) (a .k) (a .words .now) (a .x) (a .y) (a .sign) (a .list .now)) (sym (checked .check-net .ensures) ∙ net .net2 .given .1)
+    gone-on Refused (a .o) (a .k) (a .words .now) (a .set) (checkClauses (a .o) (a .x) (a .y) (a .sign))
+    (λ _. checkDone (a .o) (a .k) (chosen (a .set) (a .words .now)) (a .x) (a .y) (a .sign) (a .list .now)) (sym (checked .check-net .ensures) ∙ net .net2 .given .1)
     (c .check-list .ensures)
 
 pub check-reason-spec : {M : Type 1} → statement M
@@ -31,6 +40,6 @@ check-reason-spec =
     (search needs)
     (search needs)
     (search needs)
-    (search needs)
+    check-list-requires
     returns
     returns-2)

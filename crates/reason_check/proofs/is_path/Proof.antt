@@ -4,7 +4,8 @@ use mathlib.Core.Path.{sym}
 use native.Mathlib.Omega.{arith}
 use lib.ListN.{length}
 use Rattle.theory.specs.Words.{signAt}
-use Rattle.reason_check.proofs.Shape.{short-fails, no-first-part, other-length, other-sign, other-start, other-end, steps-decide}
+use Rattle.theory.specs.Origins.{chosen}
+use Rattle.reason_check.proofs.Shape.{short-fails, first-part-fails, length-fails, sign-fails, start-fails, end-fails, steps-decide}
 use borrow.Author.Needs.{needs}
 use Rattle.reason_check.proofs.is_path.Statement.{statement}
 use Rattle.reason_check.proofs.is_path.Tie as tie
@@ -12,13 +13,13 @@ use Rattle.reason_check.proofs.is_path.Tie as tie
 returns : tie.Need-returns
 returns c =
     let a = c .before .before .before .args in
-    sym (short-fails (a .o) (a .k) (a .words .now) (a .x) (a .y) (signAt (a .sign)) (a .list .now) (c .if1 .taken))
+    sym (short-fails (a .o) (a .k) (chosen (a .set) (a .words .now)) (a .x) (a .y) (signAt (a .sign)) (a .list .now) (c .if1 .taken))
 
 returns-2 : tie.Need-returns-2
 returns-2 c =
     let long = c .before .before .before in
     let a = long .before .before .before .args in
-    no-first-part (a .o) (a .k) (a .words .now) (a .x) (a .y) (signAt (a .sign)) (a .list .now) (long .if1 .left) (c .if2 .taken)
+    first-part-fails (a .o) (a .k) (chosen (a .set) (a .words .now)) (a .x) (a .y) (signAt (a .sign)) (a .list .now) (long .if1 .left) (c .if2 .taken)
 
 cast-if3 : tie.Need-cast-if3
 cast-if3 c = omega (arith, c .before .before .shared-slice-known3 .given 0, c .before .shared-slice-known4 .given 1)
@@ -37,7 +38,7 @@ returns-3 c =
     let some = c .before in
     let long = some .before .before .before in
     let a = long .before .before .before .args in
-    other-length (a .o) (a .k) (a .words .now) (a .x) (a .y) (signAt (a .sign)) (a .list .now) (long .if1 .left) (some .if2 .left) (c .if3 .taken)
+    length-fails (a .o) (a .k) (chosen (a .set) (a .words .now)) (a .x) (a .y) (signAt (a .sign)) (a .list .now) (long .if1 .left) (some .if2 .left) (c .if3 .taken)
 
 returns-4 : tie.Need-returns-4
 returns-4 c =
@@ -45,7 +46,7 @@ returns-4 c =
     let some = sizes .before in
     let long = some .before .before .before in
     let a = long .before .before .before .args in
-    other-sign (a .o) (a .k) (a .words .now) (a .x) (a .y) (signAt (a .sign)) (a .list .now) (long .if1 .left) (some .if2 .left) (sizes .if3 .left)
+    sign-fails (a .o) (a .k) (chosen (a .set) (a .words .now)) (a .x) (a .y) (signAt (a .sign)) (a .list .now) (long .if1 .left) (some .if2 .left) (sizes .if3 .left)
     (c .before .goes-with .ensures) (c .if4 .taken)
 
 cast-if5 : tie.Need-cast-if5
@@ -58,7 +59,7 @@ returns-5 c =
     let some = sizes .before in
     let long = some .before .before .before in
     let a = long .before .before .before .args in
-    other-start (a .o) (a .k) (a .words .now) (a .x) (a .y) (signAt (a .sign)) (a .list .now) (long .if1 .left) (some .if2 .left) (sizes .if3 .left)
+    start-fails (a .o) (a .k) (chosen (a .set) (a .words .now)) (a .x) (a .y) (signAt (a .sign)) (a .list .now) (long .if1 .left) (some .if2 .left) (sizes .if3 .left)
     (goes .before .goes-with .ensures) (goes .if4 .left) (c .if5 .taken)
 
 cast-if6 : tie.Need-cast-if6
@@ -74,8 +75,13 @@ returns-6 c =
     let some = sizes .before in
     let long = some .before .before .before in
     let a = long .before .before .before .args in
-    other-end (a .o) (a .k) (a .words .now) (a .x) (a .y) (signAt (a .sign)) (a .list .now) (long .if1 .left) (some .if2 .left) (sizes .if3 .left)
+    end-fails (a .o) (a .k) (chosen (a .set) (a .words .now)) (a .x) (a .y) (signAt (a .sign)) (a .list .now) (long .if1 .left) (some .if2 .left) (sizes .if3 .left)
     (goes .before .goes-with .ensures) (goes .if4 .left) (start .if5 .left) (c .if6 .taken)
+
+steps-hold-requires : tie.Need-steps-hold-requires
+steps-hold-requires c κs =
+    let s = c .before .before .before .before .before .before .before .before .before .before .before .before .before in
+    (s .pre, omega arith)
 
 returns-7 : tie.Need-returns-7
 returns-7 c =
@@ -85,7 +91,7 @@ returns-7 c =
     let some = sizes .before in
     let long = some .before .before .before in
     let a = long .before .before .before .args in
-    steps-decide (a .o) (a .k) (a .words .now) (a .x) (a .y) (signAt (a .sign)) (a .list .now) (long .if1 .left) (some .if2 .left) (sizes .if3 .left)
+    steps-decide (a .o) (a .k) (chosen (a .set) (a .words .now)) (a .x) (a .y) (signAt (a .sign)) (a .list .now) (long .if1 .left) (some .if2 .left) (sizes .if3 .left)
     (goes .before .goes-with .ensures) (goes .if4 .left) (start .if5 .left) (c .before .if6 .left) (c .steps-hold .ensures)
 
 pub is-path-spec : {M : Type 1} → statement M
@@ -111,5 +117,5 @@ is-path-spec =
     (search needs)
     cast-if6
     returns-6
-    (search needs)
+    steps-hold-requires
     returns-7)

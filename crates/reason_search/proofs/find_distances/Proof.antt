@@ -8,17 +8,19 @@ use lib.ListN.{length}
 use Rattle.theory.specs.Words.{signAt}
 use Rattle.theory.specs.Reasons.{goal}
 use Rattle.theory.specs.Searches.{arcs, levels}
+use Rattle.theory.specs.Origins.{chosen}
+use Rattle.theory.proofs.origins.Statements.{chosen-net}
 use Rattle.theory.proofs.reason.Distances.{goal-in}
 use Rattle.reason_search.proofs.Levelling.{levels-begin, levels-next, levels-stop, levels-end}
 use Rattle.reason_search.proofs.find_distances.Statement.{statement}
 use Rattle.reason_search.proofs.find_distances.Tie as tie
 
 abbrev Inv-loop : tie.InvT-loop
-Inv-loop n sign words y places₀ end i₀ places i =
-    (i ≤ n + n) × (length places ≡ n + n) × (places ≡ levels (arcs n (signAt sign) words) (n + n) (goal n (signAt sign) y) i)
+Inv-loop n sign words set y places₀ end i₀ places i =
+    (i ≤ n + n) × (length places ≡ n + n) × (places ≡ levels (arcs n (signAt sign) (chosen set words)) (n + n) (goal n (signAt sign) y) i)
 
 abbrev μ-loop : tie.MeasureT-loop
-μ-loop n sign words y places₀ end i₀ places i = n + n - i
+μ-loop n sign words set y places₀ end i₀ places i = n + n - i
 
 goal-of-requires : tie.Need-goal-of-requires Inv-loop μ-loop
 goal-of-requires c κs =
@@ -39,7 +41,7 @@ loop-holds c =
     let a = s .args in (
       omega arith,
       f .kept .1 .0 ∙ s .pre .1 .1,
-      levels-begin (a .n) (a .sign) (a .words .now) (s .pre .0) (a .y) (s .pre .1 .0) (g .goal-of .ensures) (s .pre .1 .1) (f .ensures),
+      levels-begin (a .n) (a .sign) (chosen (a .set) (a .words .now)) (chosen-net (a .set) 0 (a .n) (a .words .now) (s .pre .0)) (a .y) (s .pre .1 .0) (g .goal-of .ensures) (s .pre .1 .1) (f .ensures),
     )
 
 cast-run-level : tie.Need-cast-run-level Inv-loop μ-loop
@@ -56,7 +58,7 @@ same-length : tie.Need-same-length Inv-loop μ-loop
 same-length c =
     let at = c .before .before .before .before .before .before in
     let s = at .before .before .before .before .before .before .before .before in
-    c .before .before .before .run-level .kept .1 .1 .1 .1 .0 ∙ at .loop .inv .1 ∙ sym (s .pre .1 .1)
+    c .before .before .before .run-level .kept .1 .1 .1 .1 .1 .0 ∙ at .loop .inv .1 ∙ sym (s .pre .1 .1)
 
 returns : tie.Need-returns Inv-loop μ-loop
 returns c =
@@ -64,7 +66,7 @@ returns c =
     let at = c .before .before .before .before .before .before in
     let s = at .before .before .before .before .before .before .before .before in
     let a = s .args in
-    levels-stop (a .n) (a .sign) (a .words .now) (s .pre .0) (a .y) (s .pre .1 .0) (at .loop .i) (at .loop .inv .0) (at .loop .inv .2) (f .ensures .0) (f .ensures .1 (not-true _ (c .if1 .taken)))
+    levels-stop (a .n) (a .sign) (chosen (a .set) (a .words .now)) (chosen-net (a .set) 0 (a .n) (a .words .now) (s .pre .0)) (a .y) (s .pre .1 .0) (at .loop .i) (at .loop .inv .0) (at .loop .inv .2) (f .ensures .0) (f .ensures .1 (not-true _ (c .if1 .taken)))
 
 loop-less : tie.Need-loop-less Inv-loop μ-loop
 loop-less c =
@@ -78,8 +80,8 @@ loop-again c =
     let s = at .before .before .before .before .before .before .before .before in
     let a = s .args in (
       omega arith,
-      f .kept .1 .1 .1 .1 .0 ∙ at .loop .inv .1,
-      levels-next (a .n) (a .sign) (a .words .now) (s .pre .0) (a .y) (s .pre .1 .0) (at .loop .i) (at .loop .inv .2) (f .ensures .0),
+      f .kept .1 .1 .1 .1 .1 .0 ∙ at .loop .inv .1,
+      levels-next (a .n) (a .sign) (chosen (a .set) (a .words .now)) (chosen-net (a .set) 0 (a .n) (a .words .now) (s .pre .0)) (a .y) (s .pre .1 .0) (at .loop .i) (at .loop .inv .2) (f .ensures .0),
     )
 
 same-length-2 : tie.Need-same-length-2 Inv-loop μ-loop
@@ -92,7 +94,7 @@ returns-2 c =
     let at = c .before in
     let s = at .before .before .before .before .before .before .before .before in
     let a = s .args in
-    levels-end (a .n) (a .sign) (a .words .now) (s .pre .0) (a .y) (s .pre .1 .0) (at .loop .i) (omega arith) (at .loop .inv .0) (at .loop .inv .2)
+    levels-end (a .n) (a .sign) (chosen (a .set) (a .words .now)) (chosen-net (a .set) 0 (a .n) (a .words .now) (s .pre .0)) (a .y) (s .pre .1 .0) (at .loop .i) (omega arith) (at .loop .inv .0) (at .loop .inv .2)
 
 pub find-distances-spec : {M : Type 1} → statement M
 find-distances-spec =

@@ -7,7 +7,7 @@ use borrow.Author.Fill.{fill-more}
 use native.Mathlib.Omega.{arith}
 use lib.ListN.{length, drop, replicate, length-set}
 use Rattle.theory.specs.Reasons.{never}
-use Rattle.reason_search.proofs.Levelling.{filled}
+use Rattle.reason_search.proofs.Levelling.{places-filled}
 use Rattle.reason_search.proofs.start_at.Statement.{statement}
 use Rattle.reason_search.proofs.start_at.Tie as tie
 
@@ -39,7 +39,7 @@ returns : tie.Need-returns Inv-loop μ-loop
 returns c =
     let l = c .before in
     let a = l .before .args in
-    filled (a .end) (l .loop .at) (a .places .now) (omega arith) (omega arith) (l .loop .inv .2)
+    places-filled (a .end) (l .loop .at) (a .places .now) (omega arith) (omega arith) (l .loop .inv .2)
 
 pub start-at-spec : {M : Type 1} → statement M
 start-at-spec =

@@ -3,17 +3,18 @@ use borrow.Author.Needs.{needs}
 use native.Mathlib.Omega.{arith}
 use Rattle.theory.specs.Words.{signAt}
 use Rattle.theory.specs.Reasons.{never}
+use Rattle.theory.specs.Origins.{chosen}
 use Rattle.reason_search.proofs.Opening.{at-place}
 use Rattle.reason_walk.proofs.Nearer.{part-small}
-use Rattle.reason_walk.proofs.Walking.{Walking, walking-begin, walking-end, next-nearer, walking-go}
+use Rattle.reason_walk.proofs.Walking.{Walking, walking-begin, walking-end, found-nearer, walking-go}
 use Rattle.reason_walk.proofs.write_nodes.Statement.{statement}
 use Rattle.reason_walk.proofs.write_nodes.Tie as tie
 
 abbrev Inv-loop : tie.InvT-loop
-Inv-loop n sign words places x list₀ state₀ left₀ count₀ at₀ list state left count at = Walking n (signAt sign) words places x list₀ list state left count at
+Inv-loop n sign words set places x list₀ state₀ left₀ count₀ at₀ list state left count at = Walking n (signAt sign) (chosen set words) places x list₀ list state left count at
 
 abbrev μ-loop : tie.MeasureT-loop
-μ-loop n sign words places x list₀ state₀ left₀ count₀ at₀ list state left count at = left
+μ-loop n sign words set places x list₀ state₀ left₀ count₀ at₀ list state left count at = left
 
 mul-left : tie.Need-mul-left Inv-loop μ-loop
 mul-left c =
@@ -31,7 +32,7 @@ loop-holds c =
     let a = s .args in
     let start = s .pre .1 .1 .1 .0 in
     let e = at-place (a .places .now) (a .x) never 0 (omega (arith, start .0, s .pre .1 .0)) in
-    walking-begin (a .n) (signAt (a .sign)) (a .words .now) (a .places .now) (a .x) (a .list .now) (start .0) e (omega (arith, start .1, e)) (omega (arith, s .pre .1 .1 .1 .1, e))
+    walking-begin (a .n) (signAt (a .sign)) (chosen (a .set) (a .words .now)) (a .places .now) (a .x) (a .list .now) (start .0) e (omega (arith, start .1, e)) (omega (arith, s .pre .1 .1 .1 .1, e))
 
 next-state-requires : tie.Need-next-state-requires Inv-loop μ-loop
 next-state-requires c κs =
@@ -50,7 +51,7 @@ node-of-requires c κs =
     let s = at .before .before .before .before .before in
     let a = s .args in (
       omega (arith, s .pre .0 .few),
-      next-nearer (a .n) (signAt (a .sign)) (a .words .now) (a .places .now) (a .x) (a .list .now) (s .pre .1 .1 .0) (at .loop .inv) (omega arith) (c .before .next-state .ensures) .0,
+      found-nearer (a .n) (signAt (a .sign)) (chosen (a .set) (a .words .now)) (a .places .now) (a .x) (a .list .now) (s .pre .1 .1 .0) (at .loop .inv) (omega arith) (c .before .next-state .ensures) .0,
     )
 
 mul-list : tie.Need-mul-list Inv-loop μ-loop
@@ -76,7 +77,7 @@ loop-again c =
     let at = c .before .before .before .before in
     let s = at .before .before .before .before .before in
     let a = s .args in
-    walking-go (a .n) (signAt (a .sign)) (a .words .now) (a .places .now) (a .x) (a .list .now) (s .pre .1 .1 .0) (at .loop .inv) (omega arith)
+    walking-go (a .n) (signAt (a .sign)) (chosen (a .set) (a .words .now)) (a .places .now) (a .x) (a .list .now) (s .pre .1 .1 .0) (at .loop .inv) (omega arith)
     (c .before .before .next-state .ensures) (c .before .first-part .ensures) (c .node-of .ensures)
 
 same-length : tie.Need-same-length Inv-loop μ-loop
@@ -87,7 +88,7 @@ returns c =
     let at = c .before in
     let s = at .before .before .before .before .before in
     let a = s .args in
-    walking-end (a .n) (signAt (a .sign)) (a .words .now) (a .places .now) (a .x) (a .list .now) (s .pre .1 .1 .0) (at .loop .inv) (omega arith)
+    walking-end (a .n) (signAt (a .sign)) (chosen (a .set) (a .words .now)) (a .places .now) (a .x) (a .list .now) (s .pre .1 .1 .0) (at .loop .inv) (omega arith)
 
 pub write-nodes-spec : {M : Type 1} → statement M
 write-nodes-spec =

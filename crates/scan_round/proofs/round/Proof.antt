@@ -1,6 +1,8 @@
 -- The commands one after another are the round, and each flag tells of its command.
 use native.Mathlib.Omega.{arith}
 use borrow.Author.Needs.{needs}
+use Rattle.theory.specs.Origins.{chosen}
+use Rattle.theory.proofs.origins.Statements.{chosen-inside}
 use Rattle.scan_round.proofs.Turns.{round-ran}
 use Rattle.scan_round.proofs.round.Statement.{statement}
 use Rattle.scan_round.proofs.round.Tie as tie
@@ -44,7 +46,7 @@ returns c =
     let at1 = at2 .before .before .before .before in
     let s = at1 .before .before .before .before in
     let a = s .args in
-    round-ran (a .n) (a .words .now) (a .marks .now) (s .pre .0) (s .pre .1 .1 .0) (s .pre .1 .1 .1)
+    round-ran (a .n) (chosen (a .set) (a .words .now)) (a .marks .now) (chosen-inside (a .set) (a .words .now) (s .pre .0)) (s .pre .1 .1 .0) (s .pre .1 .1 .1)
     (at1 .run-command .ensures) (at2 .run-command2 .ensures) (at3 .run-command3 .ensures) (at4 .run-command4 .ensures) (at5 .run-command5 .ensures)
 
 pub round-spec : {M : Type 1} → statement M

@@ -8,18 +8,19 @@ use borrow.Author.Tests.{not-true, not-false}
 use lib.ListN.{length}
 use Rattle.theory.specs.Marks.{commands}
 use Rattle.theory.specs.Scans.{rounds}
+use Rattle.theory.specs.Origins.{chosen}
 use Rattle.theory.proofs.machine.Rounds.{loop-spent, loop-last, loop-more}
 use Rattle.scan_start.specs.Starts.{Low}
 use Rattle.scan_rounds.proofs.run_rounds.Statement.{statement}
 use Rattle.scan_rounds.proofs.run_rounds.Tie as tie
 
 abbrev Inv-loop : tie.InvT-loop
-Inv-loop n words budget marks₀ count₀ marks count =
+Inv-loop n words set budget marks₀ count₀ marks count =
     (count ≤ budget) × (length marks ≡ length marks₀)
-    × (rounds commands words 0 budget marks₀ ≡ rounds commands words count (budget - count) marks) × Low n marks
+    × (rounds commands (chosen set words) 0 budget marks₀ ≡ rounds commands (chosen set words) count (budget - count) marks) × Low n marks
 
 abbrev μ-loop : tie.MeasureT-loop
-μ-loop n words budget marks₀ count₀ marks count = budget - count
+μ-loop n words set budget marks₀ count₀ marks count = budget - count
 
 loop-holds : tie.Need-loop-holds Inv-loop μ-loop
 loop-holds c =
@@ -32,7 +33,7 @@ round-requires c κs =
     (s .pre .0, (s .pre .1 .0, (omega arith, c .before .before .loop .inv .3)))
 
 same-length : tie.Need-same-length Inv-loop μ-loop
-same-length c = c .before .before .before .round .kept .1 .1 .0 ∙ c .before .before .before .before .before .before .loop .inv .1
+same-length c = c .before .before .before .round .kept .1 .1 .1 .0 ∙ c .before .before .before .before .before .before .loop .inv .1
 
 returns : tie.Need-returns Inv-loop μ-loop
 returns c =
@@ -40,7 +41,7 @@ returns c =
     let a = at .before .before .before .args in
     let r = c .before .before .before .round in (
       at .loop .inv .2
-          ∙ loop-last commands (a .words .now) (at .loop .count) (a .budget) (at .loop .marks) (r .last .1 .1 .0) (omega arith) (r .ensures .0)
+          ∙ loop-last commands (chosen (a .set) (a .words .now)) (at .loop .count) (a .budget) (at .loop .marks) (r .last .1 .1 .1 .0) (omega arith) (r .ensures .0)
           (r .ensures .1 .0) (not-true (r .result) (c .if1 .taken)),
       r .ensures .1 .1,
     )
@@ -51,9 +52,9 @@ loop-again c =
     let a = at .before .before .before .args in
     let r = c .before .before .before .round in (
       omega arith,
-      r .kept .1 .1 .0 ∙ at .loop .inv .1,
+      r .kept .1 .1 .1 .0 ∙ at .loop .inv .1,
       at .loop .inv .2
-          ∙ loop-more commands (a .words .now) (at .loop .count) (a .budget) (at .loop .marks) (r .last .1 .1 .0) (omega arith) (r .ensures .0)
+          ∙ loop-more commands (chosen (a .set) (a .words .now)) (at .loop .count) (a .budget) (at .loop .marks) (r .last .1 .1 .1 .0) (omega arith) (r .ensures .0)
           (r .ensures .1 .0) (not-false (r .result) (c .if1 .left)),
       r .ensures .1 .1,
     )
@@ -65,7 +66,7 @@ returns-2 : tie.Need-returns-2 Inv-loop μ-loop
 returns-2 c =
     let at = c .before in
     let a = at .before .before .before .args in (
-      at .loop .inv .2 ∙ loop-spent commands (a .words .now) (at .loop .count) (a .budget) (at .loop .marks) (at .loop .marks) (omega arith),
+      at .loop .inv .2 ∙ loop-spent commands (chosen (a .set) (a .words .now)) (at .loop .count) (a .budget) (at .loop .marks) (at .loop .marks) (omega arith),
       at .loop .inv .3,
     )
 

@@ -11,7 +11,7 @@ use Rattle.strumelka.proofs.strumelka_check_net.Tie as tie
 checked-given-requires : tie.Need-checked-given-requires
 checked-given-requires c κs =
     let a = c .before .before .args in
-    carry-fits checkedReply (sym (c .check-net .ensures)) (checked-fits (a .o) (a .k) (a .words .now))
+    carry-fits checkedReply (sym (c .check-net .ensures)) (checked-fits (a .o) (a .k) (a .words .now) (a .set))
 
 returns : tie.Need-returns
 returns c = carry-reply checkedReply (sym (c .before .check-net .ensures)) (c .checked-given .ensures)

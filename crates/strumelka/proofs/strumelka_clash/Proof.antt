@@ -12,7 +12,7 @@ clashed-given-requires : tie.Need-clashed-given-requires
 clashed-given-requires c κs =
     let find = c .before .before in
     let a = find .before .before .before .before .args in
-    carry-fits clashGives (sym (find .find-clash .ensures)) (clash-fits (a .o) (a .k) (a .words .now) (a .marks .now))
+    carry-fits clashGives (sym (find .find-clash .ensures)) (clash-fits (a .o) (a .k) (a .words .now) (a .set) (a .marks .now))
 
 returns : tie.Need-returns
 returns c =

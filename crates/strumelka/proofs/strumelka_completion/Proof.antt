@@ -12,7 +12,7 @@ completed-given-requires : tie.Need-completed-given-requires
 completed-given-requires c κs =
     let complete = c .before .before .before .before in
     let a = complete .before .before .before .before .before .before .args in
-    carry-fits completionGives (sym (complete .complete-net .ensures)) (completion-fits (a .o) (a .k) (a .words .now) (a .marks .now) (a .list .now))
+    carry-fits completionGives (sym (complete .complete-net .ensures)) (completion-fits (a .o) (a .k) (a .words .now) (a .set) (a .marks .now) (a .list .now))
 
 returns : tie.Need-returns
 returns c =

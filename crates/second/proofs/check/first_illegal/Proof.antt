@@ -6,10 +6,10 @@ use Rattle.second.proofs.check.first_illegal.Statement.{statement}
 use Rattle.second.proofs.check.first_illegal.Tie as tie
 
 abbrev Inv-loop : tie.InvT-loop
-Inv-loop o k words i₀ i = i ≤ length words
+Inv-loop o k plain words i₀ i = i ≤ length words
 
 abbrev μ-loop : tie.MeasureT-loop
-μ-loop o k words i₀ i = length words - i
+μ-loop o k plain words i₀ i = length words - i
 
 pub first-illegal-spec : {M : Type 1} → statement M
 first-illegal-spec =

@@ -7,10 +7,10 @@ use Rattle.second.proofs.closure.add_links.Statement.{statement}
 use Rattle.second.proofs.closure.add_links.Tie as tie
 
 abbrev Inv-loop : tie.InvT-loop
-Inv-loop words support₀ i₀ support i = length support ≡ length support₀
+Inv-loop words set support₀ i₀ support i = length support ≡ length support₀
 
 abbrev μ-loop : tie.MeasureT-loop
-μ-loop words support₀ i₀ support i = length words - i
+μ-loop words set support₀ i₀ support i = length words - i
 
 pub add-links-spec : {M : Type 1} → statement M
 add-links-spec =
@@ -18,8 +18,6 @@ add-links-spec =
     (tie.spec
     Inv-loop
     μ-loop
-    (search needs)
-    (search needs)
     (search needs)
     (search needs)
     (search needs)

@@ -7,10 +7,10 @@ use Rattle.second.proofs.closure.close_cells.Statement.{statement}
 use Rattle.second.proofs.closure.close_cells.Tie as tie
 
 abbrev Inv-loop : tie.InvT-loop
-Inv-loop o n words support₀ passes₀ support passes = length support ≡ length support₀
+Inv-loop o n words set support₀ passes₀ support passes = length support ≡ length support₀
 
 abbrev μ-loop : tie.MeasureT-loop
-μ-loop o n words support₀ passes₀ support passes = 2097154 - passes
+μ-loop o n words set support₀ passes₀ support passes = 2097154 - passes
 
 pub close-cells-spec : {M : Type 1} → statement M
 close-cells-spec =

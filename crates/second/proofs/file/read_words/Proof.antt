@@ -7,10 +7,10 @@ use Rattle.second.proofs.file.read_words.Statement.{statement}
 use Rattle.second.proofs.file.read_words.Tie as tie
 
 abbrev Inv-loop : tie.InvT-loop
-Inv-loop file words₀ count i₀ words i = length words ≡ length words₀
+Inv-loop file words₀ first count i₀ words i = length words ≡ length words₀
 
 abbrev μ-loop : tie.MeasureT-loop
-μ-loop file words₀ count i₀ words i = count - i
+μ-loop file words₀ first count i₀ words i = count - i
 
 pub read-words-spec : {M : Type 1} → statement M
 read-words-spec =
@@ -18,6 +18,7 @@ read-words-spec =
     (tie.spec
     Inv-loop
     μ-loop
+    (search needs)
     (search needs)
     (search needs)
     (search needs)

@@ -6,10 +6,10 @@ use Rattle.second.proofs.path.all_allowed.Statement.{statement}
 use Rattle.second.proofs.path.all_allowed.Tie as tie
 
 abbrev Inv-loop : tie.InvT-loop
-Inv-loop o k words list second i₀ i = 3 ≤ i
+Inv-loop o k words set list second i₀ i = 3 ≤ i
 
 abbrev μ-loop : tie.MeasureT-loop
-μ-loop o k words list second i₀ i = length list - i
+μ-loop o k words set list second i₀ i = length list - i
 
 pub all-allowed-spec : {M : Type 1} → statement M
 all-allowed-spec =

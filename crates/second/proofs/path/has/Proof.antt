@@ -6,10 +6,10 @@ use Rattle.second.proofs.path.has.Statement.{statement}
 use Rattle.second.proofs.path.has.Tie as tie
 
 abbrev Inv-loop : tie.InvT-loop
-Inv-loop words word i₀ i = i ≤ length words
+Inv-loop words set word i₀ i = i ≤ length words
 
 abbrev μ-loop : tie.MeasureT-loop
-μ-loop words word i₀ i = length words - i
+μ-loop words set word i₀ i = length words - i
 
 pub has-spec : {M : Type 1} → statement M
 has-spec =
@@ -17,6 +17,7 @@ has-spec =
     (tie.spec
     Inv-loop
     μ-loop
+    (search needs)
     (search needs)
     (search needs)
     (search needs)

@@ -6,10 +6,10 @@ use Rattle.second.proofs.rounds.command.Statement.{statement}
 use Rattle.second.proofs.rounds.command.Tie as tie
 
 abbrev Inv-loop : tie.InvT-loop
-Inv-loop words sign down old marker₀ changed₀ i₀ marker changed i = i ≤ length words
+Inv-loop words set sign down old marker₀ changed₀ i₀ marker changed i = i ≤ length words
 
 abbrev μ-loop : tie.MeasureT-loop
-μ-loop words sign down old marker₀ changed₀ i₀ marker changed i = length words - i
+μ-loop words set sign down old marker₀ changed₀ i₀ marker changed i = length words - i
 
 pub command-spec : {M : Type 1} → statement M
 command-spec =

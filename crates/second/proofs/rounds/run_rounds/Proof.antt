@@ -5,10 +5,10 @@ use Rattle.second.proofs.rounds.run_rounds.Statement.{statement}
 use Rattle.second.proofs.rounds.run_rounds.Tie as tie
 
 abbrev Inv-loop : tie.InvT-loop
-Inv-loop words budget t₀ f₀ u₀ count₀ t f u count = count ≤ budget
+Inv-loop words set budget t₀ f₀ u₀ count₀ t f u count = count ≤ budget
 
 abbrev μ-loop : tie.MeasureT-loop
-μ-loop words budget t₀ f₀ u₀ count₀ t f u count = budget - count
+μ-loop words set budget t₀ f₀ u₀ count₀ t f u count = budget - count
 
 pub run-rounds-spec : {M : Type 1} → statement M
 run-rounds-spec =

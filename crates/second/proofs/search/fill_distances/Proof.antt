@@ -7,10 +7,10 @@ use Rattle.second.proofs.search.fill_distances.Statement.{statement}
 use Rattle.second.proofs.search.fill_distances.Tie as tie
 
 abbrev Inv-loop : tie.InvT-loop
-Inv-loop n words y sign scratch₀ passes₀ scratch passes = length scratch ≡ length scratch₀
+Inv-loop n words set y sign scratch₀ passes₀ scratch passes = length scratch ≡ length scratch₀
 
 abbrev μ-loop : tie.MeasureT-loop
-μ-loop n words y sign scratch₀ passes₀ scratch passes = 2050 - passes
+μ-loop n words set y sign scratch₀ passes₀ scratch passes = 2050 - passes
 
 pub fill-distances-spec : {M : Type 1} → statement M
 fill-distances-spec =

@@ -6,10 +6,10 @@ use Rattle.second.proofs.search.next_state.Statement.{statement}
 use Rattle.second.proofs.search.next_state.Tie as tie
 
 abbrev Inv-loop : tie.InvT-loop
-Inv-loop n words state scratch best₀ i₀ best i = i ≤ length words
+Inv-loop n words set state scratch best₀ i₀ best i = i ≤ length words
 
 abbrev μ-loop : tie.MeasureT-loop
-μ-loop n words state scratch best₀ i₀ best i = length words - i
+μ-loop n words set state scratch best₀ i₀ best i = length words - i
 
 pub next-state-spec : {M : Type 1} → statement M
 next-state-spec =
@@ -17,9 +17,6 @@ next-state-spec =
     (tie.spec
     Inv-loop
     μ-loop
-    (search needs)
-    (search needs)
-    (search needs)
     (search needs)
     (search needs)
     (search needs)

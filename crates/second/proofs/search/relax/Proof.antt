@@ -7,10 +7,10 @@ use Rattle.second.proofs.search.relax.Statement.{statement}
 use Rattle.second.proofs.search.relax.Tie as tie
 
 abbrev Inv-loop : tie.InvT-loop
-Inv-loop n words scratch₀ changed₀ i₀ scratch changed i = length scratch ≡ length scratch₀
+Inv-loop n words set scratch₀ changed₀ i₀ scratch changed i = length scratch ≡ length scratch₀
 
 abbrev μ-loop : tie.MeasureT-loop
-μ-loop n words scratch₀ changed₀ i₀ scratch changed i = length words - i
+μ-loop n words set scratch₀ changed₀ i₀ scratch changed i = length words - i
 
 pub relax-spec : {M : Type 1} → statement M
 relax-spec =
@@ -18,9 +18,6 @@ relax-spec =
     (tie.spec
     Inv-loop
     μ-loop
-    (search needs)
-    (search needs)
-    (search needs)
     (search needs)
     (search needs)
     (search needs)

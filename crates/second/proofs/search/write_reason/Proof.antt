@@ -7,10 +7,10 @@ use Rattle.second.proofs.search.write_reason.Statement.{statement}
 use Rattle.second.proofs.search.write_reason.Tie as tie
 
 abbrev Inv-loop : tie.InvT-loop
-Inv-loop n words x links scratch list₀ state₀ passed₀ first₀ list state passed first = (length list ≡ length list₀) × (passed ≤ links)
+Inv-loop n words set x links scratch list₀ state₀ passed₀ first₀ list state passed first = (length list ≡ length list₀) × (passed ≤ links)
 
 abbrev μ-loop : tie.MeasureT-loop
-μ-loop n words x links scratch list₀ state₀ passed₀ first₀ list state passed first = links - passed
+μ-loop n words set x links scratch list₀ state₀ passed₀ first₀ list state passed first = links - passed
 
 pub write-reason-spec : {M : Type 1} → statement M
 write-reason-spec =

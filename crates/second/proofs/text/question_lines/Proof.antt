@@ -7,10 +7,10 @@ use Rattle.second.proofs.text.question_lines.Statement.{statement}
 use Rattle.second.proofs.text.question_lines.Tie as tie
 
 abbrev Inv-loop : tie.InvT-loop
-Inv-loop file o k words support text₀ first count end₀ i₀ text end i = length text ≡ length text₀
+Inv-loop file o k words set support text₀ first count end₀ i₀ text end i = length text ≡ length text₀
 
 abbrev μ-loop : tie.MeasureT-loop
-μ-loop file o k words support text₀ first count end₀ i₀ text end i = count - i
+μ-loop file o k words set support text₀ first count end₀ i₀ text end i = count - i
 
 pub question-lines-spec : {M : Type 1} → statement M
 question-lines-spec =
@@ -18,7 +18,6 @@ question-lines-spec =
     (tie.spec
     Inv-loop
     μ-loop
-    (search needs)
     (search needs)
     (search needs)
     (search needs)
