@@ -1,25 +1,22 @@
-// One link under one command: which end it tests, and what it puts at the other.
+// One link under one command: which words the command follows, which end it tests, and the pending mark that it puts at the other.
 ghost use mathlib.Core.Path.{_≡_};
 ghost use Prim.Native.Nat.{_^_, _<_, _≤_};
 ghost use lib.ListN.{length};
-ghost use Rattle.theory.specs.Marks.{has, near, far, link};
-ghost use Rattle.theory.specs.Inside.{Ends};
+ghost use Rattle.theory.specs.Marks.{near, far};
 ghost use Rattle.theory.specs.Growth.{Set};
-ghost use Rattle.theory.specs.Origins.{EndsFrom, linkFrom};
+ghost use Rattle.theory.specs.Origins.{originOf, originLimit, EndsFrom, linkFrom};
 ghost use Rattle.scan_link.specs.Asks.{Small};
+ghost use Rattle.scan_link.specs.Classes.{classOf, wordIn, testFor, Tests};
+ghost use Rattle.scan_link.specs.Pending.{settle, Free, Held};
 use net_word::head_of;
 use net_word::is_chosen;
+use net_word::origin_of;
 use net_word::plain_of;
 use net_word::tail_of;
 use theory::Command;
 
-// Whether a byte has marker `j`.
-fn has_mark(byte: u8, j: u8) -> bool
-    requires { ⌜ j < 8 ⌝ }
-    ensures { λ r. ⌜ r ≡ has j byte ⌝ }
-{
-    (byte >> j) % 2 == 1
-}
+// The marker of a node whose new mark is pending.
+const PENDING: u8 = 3;
 
 // The byte of marker `j` alone.
 fn bit_of(j: u8) -> u8
@@ -27,6 +24,53 @@ fn bit_of(j: u8) -> u8
     ensures { λ r. ⌜ r ≡ 2 ^ j ⌝ }
 {
     1 << j
+}
+
+// The class of a word: its origin and its sign.
+fn class_of(word: u32) -> usize
+    requires { ⌜ originOf word ≤ originLimit ⌝ }
+    ensures { λ r. ⌜ r ≡ classOf word ⌝ }
+{
+    (origin_of(word) * 2 + word % 2) as usize
+}
+
+// A word of a class.
+fn word_in(class: usize) -> u32
+    requires { ⌜ class < 8 ⌝ }
+    ensures { λ r. ⌜ r ≡ wordIn class ⌝ }
+{
+    (class / 2 * 2097152 + class % 2) as u32
+}
+
+// The byte of the marker that a command tests for at a word's end; 0 where it does not follow the word.
+fn test_for(set: u32, c: Command, word: u32) -> u8
+    requires small { ⌜ Small c ⌝ }
+    requires origin { ⌜ originOf word ≤ originLimit ⌝ }
+    ensures { λ r. ⌜ r ≡ testFor set c word ⌝ }
+{
+    let sign = c.sign;
+    let test = c.test;
+    if word % 2 != sign {
+        return 0;
+    }
+    if !is_chosen(set, word) {
+        return 0;
+    }
+    bit_of(test)
+}
+
+// That byte for each class of words.
+pub fn tests_of(set: u32, c: Command) -> [u8; 8]
+    requires { ⌜ Small c ⌝ }
+    ensures { λ r. ⌜ Tests set c r ⌝ }
+{
+    let mut tests = [0u8; 8];
+    let mut i = 0;
+    while i < 8 {
+        tests[i] = test_for(set, c, word_in(i));
+        i += 1;
+    }
+    tests
 }
 
 // The end of a link that a command tests: the tail, or where `at_head` holds the head.
@@ -51,53 +95,31 @@ fn far_of(at_head: bool, word: u32) -> usize
     }
 }
 
-// One link, a plain word, tested against the marks `old`; whether it set a mark.
-fn follow(c: Command, old: &[u8; 1024], n: usize, word: u32, marks: &mut [u8]) -> bool
+// One word, its new mark pending; whether it set one. No byte is tested for the pending marker, so the marks of the command's beginning are tested.
+// One comparison asks both, whether the word fires and whether its mark is new: `fires` is at most 4, and `had * 8` is 0 or at least 8.
+pub fn follow(set: u32, c: Command, tests: &[u8; 8], n: usize, word: u32, marks: &mut [u8]) -> bool
     requires small { ⌜ Small c ⌝ }
-    requires ends { ⌜ Ends n word ⌝ }
-    requires few { ⌜ n ≤ 1024 ⌝ }
-    requires room { ⌜ n ≤ length (now marks) ⌝ }
-    ensures { λ r. ⌜ now (marks .exit) ≡ link c (now (old .entry)) word (now (marks .entry)) ⌝ }
-    ensures { λ r. ⌜ Set r (now (marks .entry)) (now (marks .exit)) ⌝ }
-{
-    let sign = c.sign;
-    let at_head = c.at_head;
-    let test = c.test;
-    let put = c.put;
-    if word % 2 != sign {
-        return false;
-    }
-    let near = near_of(at_head, word);
-    if !has_mark(old[near], test) {
-        return false;
-    }
-    let far = far_of(at_head, word);
-    let byte = marks[far];
-    if has_mark(byte, put) {
-        return false;
-    }
-    marks[far] = byte | bit_of(put);
-    true
-}
-
-// One word with its origin: a chosen one is followed without it, any other passed over. Whether it set a mark.
-pub fn follow_chosen(
-    set: u32,
-    c: Command,
-    old: &[u8; 1024],
-    n: usize,
-    word: u32,
-    marks: &mut [u8],
-) -> bool
-    requires small { ⌜ Small c ⌝ }
+    requires table { ⌜ Tests set c (now tests) ⌝ }
     requires ends { ⌜ EndsFrom n word ⌝ }
-    requires few { ⌜ n ≤ 1024 ⌝ }
     requires room { ⌜ n ≤ length (now marks) ⌝ }
-    ensures { λ r. ⌜ now (marks .exit) ≡ linkFrom set c (now (old .entry)) word (now (marks .entry)) ⌝ }
+    requires free { ⌜ Free n (now marks) ⌝ }
+    ensures { λ r. ⌜ settle (c .put) n (now (marks .exit)) ≡ linkFrom set c (now (marks .entry)) word (settle (c .put) n (now (marks .entry))) ⌝ }
+    ensures { λ r. ⌜ Set r (settle (c .put) n (now (marks .entry))) (settle (c .put) n (now (marks .exit))) ⌝ }
     ensures { λ r. ⌜ Set r (now (marks .entry)) (now (marks .exit)) ⌝ }
+    ensures { λ r. ⌜ Held n (now (marks .entry)) (now (marks .exit)) ⌝ }
+    ensures { λ r. ⌜ Free n (now (marks .exit)) ⌝ }
 {
-    if !is_chosen(set, word) {
-        return false;
+    let at_head = c.at_head;
+    let put = c.put;
+    let plain = plain_of(word);
+    let near = near_of(at_head, plain);
+    let far = far_of(at_head, plain);
+    let byte = marks[far];
+    let fires = marks[near] & tests[class_of(word)];
+    let had = byte & (bit_of(put) | bit_of(PENDING));
+    if had * 8 < fires {
+        marks[far] = byte | bit_of(PENDING);
+        return true;
     }
-    follow(c, old, n, plain_of(word), marks)
+    false
 }

@@ -1,85 +1,77 @@
--- Each return is one case of what a link does.
+-- The comparison decides: nothing is done, or a pending mark is put.
 use borrow.Author.Needs.{needs}
-use borrow.Author.Tests.{not-true, not-false}
-use mathlib.Core.Path.{sym}
 use native.Mathlib.Omega.{arith}
-use Rattle.theory.specs.Growth.{kept}
-use Rattle.theory.proofs.Inside.{near-in, far-in}
-use Rattle.scan_link.proofs.Following.{follow-other, follow-off, follow-had, follow-new, follow-more}
+use lib.Bits.{bitOr, and-le-l}
+use lib.ListN.{getD}
+use Rattle.scan_link.proofs.Following.{near-inside, far-inside, follow-idle, follow-new}
 use Rattle.scan_link.proofs.follow.Statement.{statement}
 use Rattle.scan_link.proofs.follow.Tie as tie
 
-returns : tie.Need-returns
-returns c =
-    let a = c .before .before .args in
-    (sym (follow-other (a .c) (a .old .now) (a .word) (a .marks .now) (c .if1 .taken)), kept)
-
-element-copy-out-has-mark : tie.Need-element-copy-out-has-mark
-element-copy-out-has-mark c =
-    let s = c .before .before .before in
-    omega (arith, near-in (s .args .c .«at_head») (s .pre .1 .0))
-
-returns-2 : tie.Need-returns-2
-returns-2 c =
-    let at = c .before .before .before .before in
-    let a = at .before .before .args in
-    let h = c .before .has-mark in (
-      sym (follow-off (a .c) (a .old .now) (a .word) (a .marks .now) (at .if1 .left) (c .before .before .before .near-of .ensures) (h .ensures)
-          (not-true (h .result) (c .if2 .taken))),
-      kept,
-    )
-
 slice-read-byte : tie.Need-slice-read-byte
 slice-read-byte c =
-    let s = c .before .before .before .before .before .before .before .before in
-    omega (arith, far-in (s .args .c .«at_head») (s .pre .1 .0))
+    let far = c .before in
+    let s = far .before .before .before .before in
+    omega (arith, far-inside (s .args .c) (s .pre .1 .1 .0) (far .before .before .plain-of .ensures) (far .far-of .ensures))
 
-returns-3 : tie.Need-returns-3
-returns-3 c =
-    let on = c .before .before .before .before in
-    let at = on .before .before .before .before in
-    let a = at .before .before .args in
-    let h = on .before .has-mark in (
-      sym (follow-had (a .c) (a .old .now) (a .word) (a .marks .now) (at .if1 .left) (on .before .before .before .near-of .ensures) (h .ensures)
-          (not-false (h .result) (on .if2 .left)) (c .before .before .before .far-of .ensures) (c .before .has-mark2 .ensures) (c .if3 .taken)),
-      kept,
+slice-read-fires : tie.Need-slice-read-fires
+slice-read-fires c =
+    let near = c .before .before .before in
+    let s = near .before .before .before in
+    omega (arith, near-inside (s .args .c) (s .pre .1 .1 .0) (near .before .plain-of .ensures) (near .near-of .ensures))
+
+mul-if1 : tie.Need-mul-if1
+mul-if1 c =
+    let far = c .before .before .before .before .before .before in
+    let s = far .before .before .before .before in
+    let b = getD (s .args .marks .now) (far .far-of .result) 0 in
+    omega (
+      arith,
+      and-le-l b (bitOr (c .before .bit-of .result) (c .bit-of2 .result)),
+      s .pre .1 .1 .1 .1 (far .far-of .result) (far-inside (s .args .c) (s .pre .1 .1 .0) (far .before .before .plain-of .ensures) (far .far-of .ensures)),
     )
 
 slice-write-marks : tie.Need-slice-write-marks
 slice-write-marks c =
-    let s = c .before .before .before .before .before .before .before .before .before .before .before in
-    omega (arith, far-in (s .args .c .«at_head») (s .pre .1 .0))
+    let far = c .before .before .before .before .before .before .before .before in
+    let s = far .before .before .before .before in
+    omega (arith, far-inside (s .args .c) (s .pre .1 .1 .0) (far .before .before .plain-of .ensures) (far .far-of .ensures))
 
-returns-4 : tie.Need-returns-4
-returns-4 c =
-    let on = c .before .before .before .before .before in
-    let at = on .before .before .before .before in
-    let s = at .before .before in
+returns : tie.Need-returns
+returns c =
+    let bits = c .before .before in
+    let far = bits .before .before .before .before .before .before in
+    let s = far .before .before .before .before in
     let a = s .args in
-    let h = on .before .has-mark in
-    let near = on .before .before .before .near-of .ensures in
-    let far = c .before .before .before .before .far-of .ensures in
-    let had = c .before .before .has-mark2 .ensures in
-    let tested = not-false (h .result) (on .if2 .left) in (
-      follow-new (a .c) (a .old .now) (a .word) (a .marks .now) (at .if1 .left) near (h .ensures) tested far had (c .bit-of .ensures),
-      follow-more (a .c) (a .old .now) (a .word) (a .marks .now) (at .if1 .left) near (h .ensures) tested far had (c .bit-of .ensures) (c .before .if3 .left)
-          (omega (arith, far-in (a .c .«at_head») (s .pre .1 .0))),
-    )
+    follow-new (a .set) (a .c) (a .n) (a .word) (a .tests .now) (a .marks .now) (s .pre .0) (s .pre .1 .0) (s .pre .1 .1 .0) (s .pre .1 .1 .1 .0) (s .pre .1 .1 .1 .1)
+    (far .before .before .plain-of .ensures) (far .before .near-of .ensures) (far .far-of .ensures) (bits .before .before .before .class-of .ensures)
+    (bits .before .bit-of .ensures) (bits .bit-of2 .ensures) (c .before .if1 .taken) (c .bit-of3 .ensures)
+
+returns-2 : tie.Need-returns-2
+returns-2 c =
+    let bits = c .before in
+    let far = bits .before .before .before .before .before .before in
+    let s = far .before .before .before .before in
+    let a = s .args in
+    follow-idle (a .set) (a .c) (a .n) (a .word) (a .tests .now) (a .marks .now) (s .pre .0) (s .pre .1 .0) (s .pre .1 .1 .0) (s .pre .1 .1 .1 .0) (s .pre .1 .1 .1 .1)
+    (far .before .before .plain-of .ensures) (far .before .near-of .ensures) (far .far-of .ensures) (bits .before .before .before .class-of .ensures)
+    (bits .before .bit-of .ensures) (bits .bit-of2 .ensures) (c .if1 .left)
 
 pub follow-spec : {M : Type 1} → statement M
 follow-spec =
     tie.close
     (tie.spec
-    returns
-    (search needs)
-    element-copy-out-has-mark
-    (search needs)
-    returns-2
-    (search needs)
+    (λ c κs. search needs)
+    (λ c κs. search needs)
+    (λ c κs. search needs)
     slice-read-byte
-    (search needs)
-    returns-3
-    (search needs)
+    slice-read-fires
+    (λ c κs. search needs)
+    (λ c. search needs)
+    (λ c κs. search needs)
+    (λ c κs. search needs)
+    mul-if1
+    (λ c κs. search needs)
     slice-write-marks
-    (search needs)
-    returns-4)
+    (λ c. search needs)
+    returns
+    returns-2)

@@ -2,40 +2,43 @@
 use native.Mathlib.Omega.{arith}
 use borrow.Author.Needs.{needs}
 use Rattle.theory.specs.Origins.{chosen}
-use Rattle.theory.proofs.origins.Statements.{chosen-inside}
 use Rattle.scan_round.proofs.Turns.{round-ran}
 use Rattle.scan_round.proofs.round.Statement.{statement}
 use Rattle.scan_round.proofs.round.Tie as tie
 
 run-command-requires-2 : tie.Need-run-command-requires-2
 run-command-requires-2 c κs =
-    let at1 = c .before .before .before .before in
+    let ran = c .before .before .before in
+    let at1 = ran .before in
     let s = at1 .before .before .before in
-    (omega arith, (s .pre .0, (s .pre .1 .0, omega arith)))
+    (omega arith, (s .pre .0, (omega arith, ran .run-command .ensures .1 .1)))
 
 run-command-requires-3 : tie.Need-run-command-requires-3
 run-command-requires-3 c κs =
-    let at2 = c .before .before .before .before in
+    let ran = c .before .before .before in
+    let at2 = ran .before in
     let at1 = at2 .before .before .before .before in
     let s = at1 .before .before .before in
-    (omega arith, (s .pre .0, (s .pre .1 .0, omega arith)))
+    (omega arith, (s .pre .0, (omega arith, ran .run-command2 .ensures .1 .1)))
 
 run-command-requires-4 : tie.Need-run-command-requires-4
 run-command-requires-4 c κs =
-    let at3 = c .before .before .before .before in
+    let ran = c .before .before .before in
+    let at3 = ran .before in
     let at2 = at3 .before .before .before .before in
     let at1 = at2 .before .before .before .before in
     let s = at1 .before .before .before in
-    (omega arith, (s .pre .0, (s .pre .1 .0, omega arith)))
+    (omega arith, (s .pre .0, (omega arith, ran .run-command3 .ensures .1 .1)))
 
 run-command-requires-5 : tie.Need-run-command-requires-5
 run-command-requires-5 c κs =
-    let at4 = c .before .before .before .before in
+    let ran = c .before .before .before in
+    let at4 = ran .before in
     let at3 = at4 .before .before .before .before in
     let at2 = at3 .before .before .before .before in
     let at1 = at2 .before .before .before .before in
     let s = at1 .before .before .before in
-    (omega arith, (s .pre .0, (s .pre .1 .0, omega arith)))
+    (omega arith, (s .pre .0, (omega arith, ran .run-command4 .ensures .1 .1)))
 
 returns : tie.Need-returns
 returns c =
@@ -44,9 +47,8 @@ returns c =
     let at3 = at4 .before .before .before .before in
     let at2 = at3 .before .before .before .before in
     let at1 = at2 .before .before .before .before in
-    let s = at1 .before .before .before .before in
-    let a = s .args in
-    round-ran (a .n) (chosen (a .set) (a .words .now)) (a .marks .now) (chosen-inside (a .set) (a .words .now) (s .pre .0)) (s .pre .1 .1 .0) (s .pre .1 .1 .1)
+    let a = at1 .before .before .before .before .args in
+    round-ran (a .n) (chosen (a .set) (a .words .now)) (a .marks .now)
     (at1 .run-command .ensures) (at2 .run-command2 .ensures) (at3 .run-command3 .ensures) (at4 .run-command4 .ensures) (at5 .run-command5 .ensures)
 
 pub round-spec : {M : Type 1} → statement M

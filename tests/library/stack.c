@@ -1,0 +1,144 @@
+/* How much stack each function of the archive takes. It is called on a stack of its own, painted beforehand, and the lowest byte that
+ * lost its paint tells how far down the call wrote. Every operation of the table that the archive has is called, on one net at the limit
+ * of nodes, in a call that is done. The figure is what the call took below its caller: arguments, return address and all frames.
+ *
+ * A line for each function; the status is 1 where one takes more than its limit. */
+#include <stdio.h>
+#include <string.h>
+#include <ucontext.h>
+
+#include "operations.c"
+
+#define COUNT(list) (sizeof(list) / sizeof(list)[0])
+
+enum { STACK_SIZE = 65536, STACK_LIMIT = 1024, MOST_FIELDS = 16 };
+
+/* 0 is of kind 24, that of 25, that not of 26; the last kind is not itself, so that a clash is found at the last node. */
+#define OBJECTS 24u
+#define KINDS 1000u
+static uint32_t words[] = {
+    STRUMELKA_WORD(0, 24, STRUMELKA_IS),
+    STRUMELKA_WORD(24, 25, STRUMELKA_IS),
+    STRUMELKA_WORD(25, 26, STRUMELKA_IS_NOT),
+    STRUMELKA_WORD(1023, 1023, STRUMELKA_IS_NOT),
+};
+static uint16_t path[] = {3, 1, 0, 24, 25, 26};
+
+static uint8_t marks[OBJECTS + KINDS];
+static uint32_t list[4096];
+static uint16_t scratch[2 * (OBJECTS + KINDS)];
+static uint16_t reason[16];
+
+/* What is handed over for each kind of field. */
+static const struct {
+    const char *name;
+    struct field field;
+} values[] = {
+    {"o", {OBJECTS, NULL, 0}},
+    {"k", {KINDS, NULL, 0}},
+    {"words", {0, words, COUNT(words)}},
+    {"set", {STRUMELKA_ALL_ORIGINS, NULL, 0}},
+    {"word", {STRUMELKA_WORD(0, 24, STRUMELKA_IS), NULL, 0}},
+    {"node", {0, NULL, 0}},
+    {"kind", {26, NULL, 0}},
+    {"sign", {STRUMELKA_IS_NOT, NULL, 0}},
+    {"budget", {UINT32_MAX, NULL, 0}},
+    {"marks", {0, marks, COUNT(marks)}},
+    {"list", {0, list, COUNT(list)}},
+    {"scratch", {0, scratch, COUNT(scratch)}},
+    {"reason", {0, reason, COUNT(reason)}},
+    {"path", {0, path, COUNT(path)}},
+};
+
+/* The call, and what it answers. */
+static void (*call)(const struct field *fields, uint32_t answer[3]);
+static struct field fields[MOST_FIELDS];
+static uint32_t answer[3];
+
+static _Alignas(64) unsigned char stack[STACK_SIZE];
+static unsigned char paint;
+static size_t unwritten;
+static ucontext_t outside, inside;
+
+/* The fields of an operation; 0 where this file has no value for one of them. */
+static int fill_fields(const char *kinds)
+{
+    for (size_t at = 0; at < MOST_FIELDS; at++) {
+        size_t length = strcspn(kinds, " "), i = 0;
+        while (i < COUNT(values) && (strlen(values[i].name) != length || strncmp(values[i].name, kinds, length) != 0))
+            i++;
+        if (i == COUNT(values))
+            return 0;
+        fields[at] = values[i].field;
+        if (kinds[length] == 0)
+            return 1;
+        kinds += length + 1;
+    }
+    return 0;
+}
+
+/* Makes the call and looks at the paint before it comes back, since that takes stack too. */
+static void enter(void)
+{
+    const volatile unsigned char *byte = stack;
+    call(fields, answer);
+    while (*byte == paint)
+        byte++;
+    unwritten = (size_t)(byte - stack);
+}
+
+static size_t written_on(unsigned char color)
+{
+    paint = color;
+    memset(stack, paint, sizeof stack);
+    getcontext(&inside);
+    inside.uc_stack.ss_sp = stack;
+    inside.uc_stack.ss_size = sizeof stack;
+    inside.uc_link = &outside;
+    makecontext(&inside, enter, 0);
+    swapcontext(&outside, &inside);
+    return sizeof stack - unwritten;
+}
+
+/* Two colors, since a byte may be written in one of them. The first call of all binds the memory functions. */
+static size_t written(void)
+{
+    written_on(0);
+    size_t first = written_on(0xa5), second = written_on(0x5a);
+    return first > second ? first : second;
+}
+
+static void nothing(const struct field *ignored, uint32_t unchanged[3])
+{
+    (void)ignored;
+    (void)unchanged;
+}
+
+int main(void)
+{
+    int status = 0;
+    call = nothing;
+    size_t before = written();
+    for (size_t i = 0; i < operations_len; i++) {
+        const struct operation *operation = &operations[i];
+        if (operation->call == NULL)
+            continue;
+        if (!fill_fields(operation->fields)) {
+            printf("%s: a field has no value here\n", operation->name);
+            return 1;
+        }
+        call = operation->call;
+        size_t bytes = written() - before;
+        /* A reason has no limit. */
+        int limited = strcmp(operation->name, "reason") != 0;
+        int over = limited && bytes > STACK_LIMIT;
+        printf("%-12s %5zu bytes%s\n", operation->name, bytes, over ? ", over the limit" : limited ? "" : ", no limit");
+        if (answer[0] != 0) {
+            printf("%s: refused with %u\n", operation->name, (unsigned)answer[0]);
+            return 1;
+        }
+        status |= over;
+    }
+    printf("limit %d bytes\n", STACK_LIMIT);
+    return status;
+}
