@@ -33,6 +33,15 @@ pub struct Engine {
     ) -> Answer,
     pub question:
         fn(o: u32, k: u32, words: &[u32], set: u32, x: u32, y: u32, marks: &mut [u8]) -> Answer,
+    pub questions: fn(
+        o: u32,
+        k: u32,
+        words: &[u32],
+        set: u32,
+        pairs: &[u16],
+        answers: &mut [u8],
+        marks: &mut [u8],
+    ) -> Answer,
     pub completion:
         fn(o: u32, k: u32, words: &[u32], set: u32, marks: &mut [u8], list: &mut [u32]) -> Answer,
     pub reason: fn(

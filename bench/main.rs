@@ -31,6 +31,8 @@ enum Operation {
     CheckNet,
     Scan,
     Question,
+    Questions,
+    SingleQuestions,
     Reason,
     Completion,
 }
@@ -42,6 +44,9 @@ const OPERATIONS: [(Operation, &str); 5] = [
     (Operation::Reason, "reason"),
     (Operation::Completion, "completion"),
 ];
+
+/// As many questions as a screenful has.
+const SCREENFUL: usize = 64;
 
 /// A net and the statement asked of it.
 struct Shape {
@@ -55,6 +60,7 @@ struct Shape {
 /// The buffers of one engine.
 #[derive(Clone, PartialEq)]
 struct Room {
+    answers: Vec<u8>,
     marks: Vec<u8>,
     words_list: Vec<u32>,
     scratch: Vec<u16>,
@@ -80,6 +86,8 @@ fn main() {
             random_shape(24, 1000, 200_000),
         ],
     );
+    println!("\n64 questions about one node, in one call and one by one:\n");
+    print_screenful(ratios, &random_shape(100, 800, 8_000));
     println!("\nHow a scan's time grows with words (random links on 1,024 nodes):\n");
     let sizes = [1_000, 4_000, 16_000, 64_000, 256_000, 1_024_000];
     print_growth(ratios, &sizes.map(|size| random_shape(24, 1000, size)));
@@ -152,6 +160,32 @@ fn print_operations(ratios: bool, shapes: &[Shape]) {
             );
         }
     }
+}
+
+fn print_screenful(ratios: bool, shape: &Shape) {
+    println!(
+        "| net | {}proved / plain, in one call | proved: in one call / one by one |",
+        if ratios {
+            ""
+        } else {
+            "proved, in one call | proved, one by one | "
+        }
+    );
+    println!("|---|{}---|---|", if ratios { "" } else { "---|---|" });
+    let at_once = measure(shape, Operation::Questions);
+    let one_by_one = measure(shape, Operation::SingleQuestions);
+    let times = if ratios {
+        String::new()
+    } else {
+        format!("{} | {} | ", time(at_once.proved), time(one_by_one.proved))
+    };
+    println!(
+        "| {} | {}{:.2} | {:.4} |",
+        shape.name,
+        times,
+        at_once.proved / at_once.plain,
+        at_once.proved / one_by_one.proved
+    );
 }
 
 fn print_growth(ratios: bool, shapes: &[Shape]) {
@@ -256,11 +290,32 @@ fn opaque(engine: &Engine) -> &Engine {
 fn room_for(shape: &Shape) -> Room {
     let nodes = shape.net.nodes();
     Room {
+        answers: vec![0; SCREENFUL],
         marks: vec![0; nodes],
         words_list: vec![0; 2 * nodes * shape.net.k as usize],
         scratch: vec![0; 2 * nodes],
         reason_list: vec![0; 2 * nodes + 3],
     }
+}
+
+/// Pairs of x and the last kinds of the net.
+fn screenful(o: u32, k: u32, x: u32) -> [u16; 2 * SCREENFUL] {
+    std::array::from_fn(|at| match at % 2 {
+        0 => x as u16,
+        _ => (o + k - 1 - (at / 2) as u32 % k) as u16,
+    })
+}
+
+/// The questions of a screenful by a call for each.
+fn ask_singly(engine: &Engine, shape: &Shape, room: &mut Room) -> Answer {
+    let Net { o, k, words } = &shape.net;
+    let pairs = screenful(*o, *k, shape.x);
+    for (pair, byte) in pairs.chunks(2).zip(&mut room.answers) {
+        let (x, y) = (pair[0] as u32, pair[1] as u32);
+        let given = (engine.question)(*o, *k, words, ALL_ORIGINS, x, y, &mut room.marks);
+        *byte = given.first as u8;
+    }
+    Answer::new(0, 0, 0)
 }
 
 fn call(engine: &Engine, operation: Operation, shape: &Shape, room: &mut Room) -> Answer {
@@ -276,6 +331,16 @@ fn call(engine: &Engine, operation: Operation, shape: &Shape, room: &mut Room) -
         Operation::CheckNet => (engine.check_net)(o, k, words, ALL_ORIGINS),
         Operation::Scan => (engine.scan)(o, k, words, ALL_ORIGINS, x, u32::MAX, &mut room.marks),
         Operation::Question => (engine.question)(o, k, words, ALL_ORIGINS, x, y, &mut room.marks),
+        Operation::Questions => (engine.questions)(
+            o,
+            k,
+            words,
+            ALL_ORIGINS,
+            &screenful(o, k, x),
+            &mut room.answers,
+            &mut room.marks,
+        ),
+        Operation::SingleQuestions => ask_singly(engine, shape, room),
         Operation::Reason => (engine.reason)(
             o,
             k,

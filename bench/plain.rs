@@ -8,6 +8,10 @@ use crate::nets::{head_of, is_chosen, origin_of, tail_of, ALL_ORIGINS, ORIGINS, 
 const NODE_LIMIT: usize = 1024;
 const NO_WAY: u16 = 65_535;
 
+/// The most pairs of a screenful, and the byte for one that is bad.
+const PAIR_LIMIT: usize = 64;
+const BAD_PAIR: u8 = 255;
+
 /// Why a word is illegal; the origin is looked at first, then the tail.
 const CAUSE_ORIGIN: u32 = 3;
 const CAUSE_TAIL: u32 = 1;
@@ -22,6 +26,7 @@ pub const ENGINE: Engine = Engine {
     check_net,
     scan,
     question,
+    questions,
     completion,
     reason,
 };
@@ -74,6 +79,37 @@ fn question(o: u32, k: u32, words: &[u32], set: u32, x: u32, y: u32, marks: &mut
         let marks = net.places(1, marks)?;
         let count = net.scan_whole(x, marks);
         Ok(Answer::new(0, answer(marks[y]), count))
+    })
+}
+
+fn questions(
+    o: u32,
+    k: u32,
+    words: &[u32],
+    set: u32,
+    pairs: &[u16],
+    answers: &mut [u8],
+    marks: &mut [u8],
+) -> Answer {
+    on_net(o, k, words, set, |net| {
+        let count = pairs.len() / 2;
+        if pairs.len() % 2 != 0 || count > PAIR_LIMIT || answers.len() < count {
+            return refused(10);
+        }
+        let marks = net.places(1, marks)?;
+        let mut scanned = None;
+        for (pair, byte) in pairs.chunks(2).zip(answers) {
+            let (Ok(x), Ok(y)) = (net.node(pair[0] as u32), net.kind(pair[1] as u32)) else {
+                *byte = BAD_PAIR;
+                continue;
+            };
+            if scanned != Some(x) {
+                net.scan_whole(x, marks);
+                scanned = Some(x);
+            }
+            *byte = answer(marks[y]) as u8;
+        }
+        Ok(Answer::new(0, 0, 0))
     })
 }
 

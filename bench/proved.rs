@@ -38,6 +38,19 @@ mod c {
             marks: *mut u8,
             marks_len: usize,
         ) -> Answer;
+        pub fn strumelka_questions(
+            o: u32,
+            k: u32,
+            words: *const u32,
+            words_len: usize,
+            set: u32,
+            pairs: *const u16,
+            pairs_len: usize,
+            answers: *mut u8,
+            answers_len: usize,
+            marks: *mut u8,
+            marks_len: usize,
+        ) -> Answer;
         pub fn strumelka_completion(
             o: u32,
             k: u32,
@@ -71,6 +84,7 @@ pub const ENGINE: Engine = Engine {
     check_net,
     scan,
     question,
+    questions,
     completion,
     reason,
 };
@@ -113,6 +127,32 @@ fn question(o: u32, k: u32, words: &[u32], set: u32, x: u32, y: u32, marks: &mut
             set,
             x,
             y,
+            marks.as_mut_ptr(),
+            marks.len(),
+        )
+    }
+}
+
+fn questions(
+    o: u32,
+    k: u32,
+    words: &[u32],
+    set: u32,
+    pairs: &[u16],
+    answers: &mut [u8],
+    marks: &mut [u8],
+) -> Answer {
+    unsafe {
+        c::strumelka_questions(
+            o,
+            k,
+            words.as_ptr(),
+            words.len(),
+            set,
+            pairs.as_ptr(),
+            pairs.len(),
+            answers.as_mut_ptr(),
+            answers.len(),
             marks.as_mut_ptr(),
             marks.len(),
         )

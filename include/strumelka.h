@@ -77,20 +77,25 @@ extern "C" {
 /* What a place of the scratch holds where no way leads to the end. */
 #define STRUMELKA_NO_WAY 65535u
 
-/* The answer to a question. */
+/* The answer to a question, and what stands for it in a screenful where a pair is bad. */
 #define STRUMELKA_ANSWER_NONE 0u
 #define STRUMELKA_ANSWER_YES 1u
 #define STRUMELKA_ANSWER_NO 2u
 #define STRUMELKA_ANSWER_BOTH 3u
+#define STRUMELKA_ANSWER_BAD_PAIR 255u
 
-/* The numbers. Where several apply, the one that stands first here is given: 15 comes before 3. (Number 9 is about net
- * files, which no function here reads.) */
+/* The most pairs of a screenful. */
+#define STRUMELKA_PAIR_LIMIT 64u
+
+/* The numbers. Where several apply, the one that stands first here is given: 15 comes before 3, and 10 before 5. (Number
+ * 9 is about net files, which no function here reads.) */
 #define STRUMELKA_NUMBER_DONE 0u
 #define STRUMELKA_NUMBER_TOO_MANY_NODES 1u
 #define STRUMELKA_NUMBER_TOO_MANY_WORDS 2u
 #define STRUMELKA_NUMBER_BAD_SET 15u
 #define STRUMELKA_NUMBER_ILLEGAL_WORD 3u
 #define STRUMELKA_NUMBER_BAD_QUESTION 4u
+#define STRUMELKA_NUMBER_BAD_SCREENFUL 10u
 #define STRUMELKA_NUMBER_SHORT_BUFFER 5u
 #define STRUMELKA_NUMBER_BUDGET_SPENT 6u
 #define STRUMELKA_NUMBER_NOTHING_FOUND 7u
@@ -150,6 +155,20 @@ struct strumelka_answer strumelka_scan(
 struct strumelka_answer strumelka_question(
     uint32_t o, uint32_t k, const uint32_t *words, size_t words_len, uint32_t set,
     uint32_t x, uint32_t y, uint8_t *marks, size_t marks_len);
+
+/* A screenful of questions: places 2 * i and 2 * i + 1 of pairs are the x and the y of pair i. Pairs in a row with the
+ * same x cost one scan.
+ *   0            byte i of answers = the answer to pair i, STRUMELKA_ANSWER_NONE, _YES, _NO or _BOTH, or
+ *                STRUMELKA_ANSWER_BAD_PAIR where x is no node or y is no kind; bytes after those of the pairs unchanged.
+ *                Marks are as strumelka_question leaves them for the last pair that is not bad, or unchanged if none is
+ *   1, 2, 15, 3  as in strumelka_check_net
+ *   10           pairs_len is odd or over 2 * STRUMELKA_PAIR_LIMIT, or answers_len is below the number of pairs; answers
+ *                and marks unchanged
+ *   5            marks_len is below STRUMELKA_MARKS(o, k), without any pair too; answers and marks unchanged */
+struct strumelka_answer strumelka_questions(
+    uint32_t o, uint32_t k, const uint32_t *words, size_t words_len, uint32_t set,
+    const uint16_t *pairs, size_t pairs_len, uint8_t *answers, size_t answers_len,
+    uint8_t *marks, size_t marks_len);
 
 /* The completion: every supported statement as a plain word, ascending, none twice.
  *   0            first = the words written to the front of list; places after them unchanged

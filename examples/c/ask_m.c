@@ -1,5 +1,5 @@
-/* Asks the questions of net M, to which a user has added a link, without the user's links: prints a line for each as `ask` does,
- * and then the reason why 0 is not 5. The last lines are what the user's link makes of the net. */
+/* Asks a screenful about net M, to which a user has added a link, without the user's links: prints a line for each pair, and then
+ * the reason why 0 is not 5. The last lines are what the user's link makes of the net, its question printed as `ask` does. */
 #include <stdio.h>
 
 #include "strumelka.h"
@@ -21,9 +21,29 @@ static const uint32_t net[] = {
 };
 static const size_t net_len = sizeof net / sizeof net[0];
 
-static const uint32_t questions[][2] = {{0, 4}, {1, 4}, {2, 5}, {3, 4}, {3, 0}};
+/* The pairs of the screenful, x and y of each; the last one is bad, since 0 is no kind. */
+static const uint16_t pairs[] = {0, 4, 1, 4, 2, 5, 3, 4, 3, 0};
+enum { PAIRS = sizeof pairs / sizeof pairs[0] / 2 };
 
 static const char *const answers[] = {"none", "yes", "no", "both"};
+
+/* Asks the whole screenful in one call and prints a line for each pair; 0 if it was done. */
+static int ask_screenful(uint32_t set)
+{
+    uint8_t given[PAIRS];
+    uint8_t marks[STRUMELKA_MARKS(OBJECTS, KINDS)];
+    struct strumelka_answer answer =
+        strumelka_questions(OBJECTS, KINDS, net, net_len, set, pairs, 2 * PAIRS, given, PAIRS,
+                            marks, sizeof marks / sizeof marks[0]);
+    if (answer.number != STRUMELKA_NUMBER_DONE) {
+        printf("screenful refused %u\n", (unsigned)answer.number);
+        return 1;
+    }
+    for (size_t i = 0; i < PAIRS; i++)
+        printf("%u %u %s\n", (unsigned)pairs[2 * i], (unsigned)pairs[2 * i + 1],
+               given[i] == STRUMELKA_ANSWER_BAD_PAIR ? "bad pair" : answers[given[i]]);
+    return 0;
+}
 
 static void ask(uint32_t set, uint32_t x, uint32_t y)
 {
@@ -85,8 +105,8 @@ int main(void)
     }
     if (!refuses_what_is_wrong())
         return 1;
-    for (size_t i = 0; i < sizeof questions / sizeof questions[0]; i++)
-        ask(without_user, questions[i][0], questions[i][1]);
+    if (ask_screenful(without_user) != 0)
+        return 1;
     if (reason_against(without_user, 0, 5) != 0)
         return 1;
     test_for_clash(without_user);

@@ -22,11 +22,12 @@ pub fn draw_case<'a>(
     if operation.fields.contains(&Field::Path) {
         draw_path(random, net, operations, &mut case);
     }
+    fit_to_pairs(random, &mut case);
     fit_to_result(random, net, &mut case);
     case
 }
 
-/// The values of a field. A budget is endless and a list for the result is empty until the result is known.
+/// The values of a field. A budget is endless and a list for the result is empty until its size is known.
 fn draw_field(random: &mut Random, net: &Net, field: Field) -> Vec<u32> {
     let nodes = net.nodes();
     match field {
@@ -39,6 +40,7 @@ fn draw_field(random: &mut Random, net: &Net, field: Field) -> Vec<u32> {
         Field::Kind => vec![draw_kind(random, net)],
         Field::Sign => vec![draw_sign(random)],
         Field::Budget => vec![u32::MAX],
+        Field::Pairs => draw_pairs(random, net),
         Field::Marks => {
             let size = draw_marks_size(random, nodes);
             garbage(random, field, size)
@@ -47,10 +49,21 @@ fn draw_field(random: &mut Random, net: &Net, field: Field) -> Vec<u32> {
             let size = draw_size(random, 2 * nodes);
             garbage(random, field, size)
         }
-        Field::List | Field::Reason | Field::Path => Vec::new(),
+        Field::Answers | Field::List | Field::Reason | Field::Path => Vec::new(),
         Field::File => draw_file(random, net),
         Field::Byte => vec![random.below(256) as u32],
     }
+}
+
+/// As many bytes for answers as there are pairs, or about as many.
+fn fit_to_pairs(random: &mut Random, case: &mut Case) {
+    let pairs = case.values_of(Field::Pairs).len() / 2;
+    let size = if random.chance(60) {
+        pairs + random.below(3)
+    } else {
+        draw_size(random, pairs)
+    };
+    case.set(Field::Answers, garbage(random, Field::Answers, size));
 }
 
 /// Budget and lists around what the call answers with an endless budget and an empty list.
@@ -102,6 +115,29 @@ fn draw_kind(random: &mut Random, net: &Net) -> u32 {
         return random.below(net.o as usize) as u32;
     }
     draw_wrong(random, net)
+}
+
+/// The pairs of a screenful, mostly some that follow each other about the same node, and now and then too many or half a pair.
+fn draw_pairs(random: &mut Random, net: &Net) -> Vec<u32> {
+    let size = match random.below(100) {
+        0..=4 => 0,
+        5..=74 => random.within(1, 9),
+        75..=84 => random.within(10, 63),
+        85..=94 => 64,
+        _ => random.within(65, 70),
+    };
+    let mut pairs = Vec::new();
+    let mut node = draw_node(random, net);
+    for _ in 0..size {
+        if random.chance(30) {
+            node = draw_node(random, net);
+        }
+        pairs.extend([node & 0xffff, draw_kind(random, net) & 0xffff]);
+    }
+    if random.chance(4) {
+        pairs.push(node & 0xffff);
+    }
+    pairs
 }
 
 /// A legal word, if the net has a kind; and as often a word that is illegal, or any.

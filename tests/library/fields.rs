@@ -11,6 +11,8 @@ pub enum Field {
     Kind,
     Sign,
     Budget,
+    Pairs,
+    Answers,
     Marks,
     List,
     Scratch,
@@ -46,7 +48,7 @@ const fn shape(name: &'static str, field: Field, width: usize, most: usize, lent
     }
 }
 
-static SHAPES: [Shape; 16] = [
+static SHAPES: [Shape; 18] = [
     number("o", Field::Objects),
     number("k", Field::Kinds),
     shape("words", Field::Words, 4, 16_384, false),
@@ -56,6 +58,8 @@ static SHAPES: [Shape; 16] = [
     number("kind", Field::Kind),
     number("sign", Field::Sign),
     number("budget", Field::Budget),
+    shape("pairs", Field::Pairs, 2, 2_048, false),
+    shape("answers", Field::Answers, 1, 2_048, true),
     shape("marks", Field::Marks, 1, 2_048, true),
     shape("list", Field::List, 4, 16_384, true),
     shape("scratch", Field::Scratch, 2, 4_096, true),

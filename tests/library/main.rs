@@ -104,7 +104,7 @@ fn replay_file(cases: &str, printed: &str) -> Result<(), String> {
         }
     }
     println!(
-        "{} of {} cases run on the archive, {} questions held to the rules, no difference",
+        "{} of {} cases run on the archive, {} held to the rules, no difference",
         replayed.on_archive, replayed.taken, replayed.by_rules
     );
     Ok(())

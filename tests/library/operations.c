@@ -46,6 +46,8 @@ struct operation {
       NET, NUMBER(4), NUMBER(5), BYTES(6))                                                 \
     _(question, "o k words set node kind marks", "0=0 0=1 0=2 0=3 1 2 15 3 4 5", true,     \
       NET, NUMBER(4), NUMBER(5), BYTES(6))                                                 \
+    _(questions, "o k words set pairs answers marks", "0 1 2 15 3 10 5", true,             \
+      NET, HALVES(4), BYTES(5), BYTES(6))                                                  \
     _(completion, "o k words set marks list", "0 1 2 15 3 5 8", true,                      \
       NET, BYTES(4), WORDS(5))                                                             \
     _(clash, "o k words set marks", "0 1 2 15 3 5 7", true,                                \

@@ -1,14 +1,16 @@
-//! Rules (3.1) to (3.5) as they stand in the request, closed over a small net by trying every rule on every pair. A question's word
+//! Rules (3.1) to (3.5) as they stand in the request, closed over a small net by trying every rule on every pair. What a call answers
 //! is held to them by code that the kit did not compile.
 
 use std::collections::BTreeSet;
 
-use crate::answer::Answer;
+use crate::call::Outcome;
 use crate::case::Case;
 use crate::fields::Field;
 use crate::nets::{head_of, is_chosen, plain, tail_of, word};
 
 const SMALL_NET: usize = 7;
+/// The answer to a pair that is bad.
+const BAD_PAIR: u32 = 255;
 
 /// The plain words of all statements that the chosen words of a legal net support.
 fn supported(o: usize, nodes: usize, words: &[u32], origins: u32) -> BTreeSet<u32> {
@@ -39,19 +41,50 @@ fn supported(o: usize, nodes: usize, words: &[u32], origins: u32) -> BTreeSet<u3
     }
 }
 
-/// The word that the rules give for a question that was answered on a small net: 0 none, 1 yes, 2 no, 3 both.
-pub fn word_by_rules(case: &Case, answer: Answer) -> Option<u32> {
-    if case.operation.name != "question" || answer.number != 0 {
-        return None;
+/// The statements that the net of a small case supports.
+struct Supported {
+    o: usize,
+    nodes: usize,
+    set: BTreeSet<u32>,
+}
+
+impl Supported {
+    /// What the rules answer to a question: 0 none, 1 yes, 2 no, 3 both. No answer where x is no node or y no kind.
+    fn word(&self, x: u32, y: u32) -> Option<u32> {
+        let (x, y) = (x as usize, y as usize);
+        if x >= self.nodes || !(self.o..self.nodes).contains(&y) {
+            return None;
+        }
+        let holds = |sign| self.set.contains(&word(x, y, sign)) as u32;
+        Some(holds(0) + 2 * holds(1))
     }
-    let number = |field| case.values_of(field)[0] as usize;
+}
+
+/// Holds what a call that was done on a small net answered to the rules, where they decide it. Whether they do.
+pub fn held_to_rules(case: &Case, found: &Outcome) -> Result<bool, String> {
+    let number = |field| case.values_of(field).first().map_or(0, |&it| it as usize);
     let o = number(Field::Objects);
     let nodes = o + number(Field::Kinds);
-    if nodes > SMALL_NET {
-        return None;
+    if found.answer.number != 0 || nodes > SMALL_NET {
+        return Ok(false);
     }
-    let origins = case.values_of(Field::Set)[0];
+    let origins = number(Field::Set) as u32;
     let set = supported(o, nodes, case.values_of(Field::Words), origins);
-    let holds = |sign| set.contains(&word(number(Field::Node), number(Field::Kind), sign)) as u32;
-    Some(holds(0) + 2 * holds(1))
+    let net = Supported { o, nodes, set };
+    let holds = match case.operation.name {
+        "question" => {
+            let asked = net.word(number(Field::Node) as u32, number(Field::Kind) as u32);
+            asked == Some(found.answer.first)
+        }
+        "questions" => {
+            let pairs = case.values_of(Field::Pairs).chunks(2);
+            let words = pairs.map(|pair| net.word(pair[0], pair[1]).unwrap_or(BAD_PAIR));
+            words.zip(&found.lists[0]).all(|(word, &byte)| word == byte)
+        }
+        _ => return Ok(false),
+    };
+    if holds {
+        return Ok(true);
+    }
+    Err(format!("the rules answer otherwise than {}", found))
 }

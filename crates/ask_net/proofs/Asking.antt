@@ -8,11 +8,12 @@ use lib.ListN.{length, drop, length-replicate}
 use Rattle.theory.specs.Marks.{blank}
 use Rattle.theory.specs.Scans.{Scan, fullScan}
 use Rattle.theory.specs.Origins.{chosen}
+use Rattle.net.specs.Clauses.{call}
 use Rattle.net.specs.Table.{checkNet, badPair}
 use Rattle.net.specs.declared.Refusal.the-variants.{BadQuestion, ShortBuffer}
 use Rattle.net.specs.declared.Checked.{Checked}
 use Rattle.net.specs.declared.Checked.the-variants as checked
-use Rattle.net.proofs.OnNet.{byCheck, on-net}
+use Rattle.net.proofs.OnNet.{byCheck, on-net, gone-on}
 use Rattle.question.specs.Table.{QuestionOutcome, questionOutcome, readAt, questionClauses, questionDone, questioned}
 use Rattle.question.specs.declared.Asked.{Asked}
 use Rattle.question.specs.declared.Asked.the-variants as asked
@@ -34,14 +35,20 @@ module _ (o k : ℕ) (ws : List ℕ) (set x y : ℕ) (m m′ : List ℕ) (e : le
   same-for (checked.Refused r) = refl
 
   -- As many marks, the same answer.
-  pub same-answer : questioned o k ws set x y m .answer ≡ questioned o k ws set x y m′ .answer
+  same-answer : questioned o k ws set x y m .answer ≡ questioned o k ws set x y m′ .answer
   same-answer =
       ap (λ (q : QuestionOutcome). q .answer) (sym (on-net (λ r. questionOutcome (asked.Refused r) m) o k ws set (questionClauses o x y m) (questionDone (chosen set ws) x y m)))
       ∙ same-for (checkNet o k ws set)
       ∙ ap (λ (q : QuestionOutcome). q .answer) (on-net (λ r. questionOutcome (asked.Refused r) m′) o k ws set (questionClauses o x y m′) (questionDone (chosen set ws) x y m′))
 
 -- So 1,024 marks answer as blank ones do.
-pub asked-blank : (o k : ℕ) (ws : List ℕ) (set x y : ℕ) (m : List ℕ) {r : Asked} {left : List ℕ} → length m ≡ 1024
+asked-blank : (o k : ℕ) (ws : List ℕ) (set x y : ℕ) (m : List ℕ) {r : Asked} {left : List ℕ} → length m ≡ 1024
     → questionOutcome r left ≡ questioned o k ws set x y m → r ≡ questioned o k ws set x y (blank 1024) .answer
 asked-blank o k ws set x y m e f =
     ap (λ (q : QuestionOutcome). q .answer) f ∙ same-answer o k ws set x y m (blank 1024) (e ∙ sym (length-replicate {A = ℕ} 1024 0))
+
+-- The same of a question on a net that was checked.
+pub asked-checked : (o k n : ℕ) (ws : List ℕ) (set x y : ℕ) (m : List ℕ) {r : Asked} {left : List ℕ} → checkNet o k ws set ≡ checked.Nodes n → length m ≡ 1024
+    → questionOutcome r left ≡ call (questionClauses o x y m n) (questionDone (chosen set ws) x y m n) → r ≡ questioned o k ws set x y (blank 1024) .answer
+asked-checked o k n ws set x y m c e f =
+    asked-blank o k ws set x y m e (gone-on (λ r. questionOutcome (asked.Refused r) m) o k ws set (questionClauses o x y m) (questionDone (chosen set ws) x y m) c f)

@@ -15,6 +15,7 @@ use Rattle.net.proofs.NetCheck.{chosen-checked}
 use Rattle.net.specs.Clauses.{call}
 use Rattle.scan.specs.Table.{ScanOutcome, scanReply}
 use Rattle.question.specs.Table.{QuestionOutcome, askedReply}
+use Rattle.questions.specs.Table.{QuestionsOutcome, askedAllReply}
 use Rattle.clash.specs.Table.{ClashOutcome, clashOutcome, clashNodes, firstBoth, firstClash, clashSearch, nowhere, clashClauses, clashDone, clashedBy, clashedReply}
 use Rattle.clash.specs.declared.Clashed.the-variants as clashed
 use Rattle.completion.specs.Table.{CompletionOutcome, completionOutcome, completionClauses, completionDone, completedBy, completedReply}
@@ -30,6 +31,10 @@ scanGives s = scanReply (s .answer)
 -- The reply of what a question leaves.
 abbrev pub questionGives : QuestionOutcome → Reply
 questionGives q = askedReply (q .answer)
+
+-- The reply of what a screenful of questions leaves.
+abbrev pub questionsGives : QuestionsOutcome → Reply
+questionsGives q = askedAllReply (q .answer)
 
 -- The reply of what a reason leaves.
 abbrev pub reasonGives : ReasonOutcome → Reply

@@ -1,7 +1,8 @@
-// The answers of scan, question, clash test, completion, reason and reason check, each as a reply.
+// The answers of scan, question, screenful of questions, clash test, completion, reason and reason check, each as a reply.
 ghost use mathlib.Core.Path.{_≡_};
 ghost use Rattle.scan.specs.Table.{scanReply};
-ghost use Rattle.question.specs.Table.{answerNumber, askedReply};
+ghost use Rattle.question.specs.Table.{askedReply};
+ghost use Rattle.questions.specs.Table.{askedAllReply};
 ghost use Rattle.clash.specs.Table.{clashedReply};
 ghost use Rattle.completion.specs.Table.{completedReply};
 ghost use Rattle.reason.specs.Table.{reasonedReply};
@@ -12,8 +13,9 @@ use completion::Completed;
 use net::Reply;
 use net::refusal_given;
 use net::reply_of;
-use question::Answer;
 use question::Asked;
+use question::answer_number;
+use questions::AskedAll;
 use reason::Reasoned;
 use reason_check::Verdict;
 use scan::Scanned;
@@ -29,25 +31,24 @@ pub fn scanned_given(scanned: Scanned) -> Reply
     }
 }
 
-// The number of an answer to a question.
-fn answer_number(answer: Answer) -> u32
-    ensures { λ r. ⌜ r ≡ answerNumber answer ⌝ }
-{
-    match answer {
-        Answer::None => 0,
-        Answer::Yes => 1,
-        Answer::No => 2,
-        Answer::Both => 3,
-    }
-}
-
 // The reply of a question.
 pub fn asked_given(asked: Asked) -> Reply
     ensures { λ r. ⌜ r ≡ askedReply asked ⌝ }
 {
     match asked {
-        Asked::Done(answer, count) => reply_of(0, answer_number(answer), count),
+        Asked::Done(answer, count) => reply_of(0, answer_number(answer) as u32, count),
         Asked::Refused(refusal) => refusal_given(refusal),
+    }
+}
+
+// The reply of a screenful of questions.
+pub fn asked_all_given(asked: AskedAll) -> Reply
+    ensures { λ r. ⌜ r ≡ askedAllReply asked ⌝ }
+{
+    match asked {
+        AskedAll::Done => reply_of(0, 0, 0),
+        AskedAll::BadPairs => reply_of(10, 0, 0),
+        AskedAll::Refused(refusal) => refusal_given(refusal),
     }
 }
 

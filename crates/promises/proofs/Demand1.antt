@@ -26,9 +26,10 @@ use Rattle.promises.specs.Tables.{Obeys}
 use Rattle.net.specs.Table.{netTable, netDone}
 use Rattle.scan.specs.Table.{scanTable, scanDone}
 use Rattle.question.specs.Table.{questionTable, questionDone}
+use Rattle.questions.specs.Table.{questionsTable, questionsDone, questionedAll}
 use Rattle.netfile.specs.Table.{readFrom, fileTable, fileDone}
 use Rattle.netfile.proofs.Called.{file-called}
-use Rattle.promises.specs.Numbers.{wordNumber, checkedNumber, scanNumber, questionNumber, clashNumber, completionNumber, reasonNumber, verdictNumber, fileNumber}
+use Rattle.promises.specs.Numbers.{wordNumber, checkedNumber, scanNumber, questionNumber, clashNumber, completionNumber, reasonNumber, verdictNumber, questionsNumber, fileNumber}
 use Rattle.promises.specs.Engines.{ours}
 use Rattle.promises.specs.Demand1.{Demand1}
 use Rattle.promises.proofs.Deciding.{obeys}
@@ -97,6 +98,12 @@ module _ (o k : ℕ) (ws : List ℕ) (set : ℕ) where
       obeys verdictNumber _ _ (record { numbered = (refl, (refl, (refl, (refl, (refl, tt))))); once = refl; nonzero = refl; zero = λ h. verdict-done (passes o k (chosen set ws) x y (signAt sign) l) }) _
       refl
 
+  -- The screenful: numbers 1, 2, 15, 3, 10 and 5, or 0.
+  pub questions-obeys : (ps bs m : List ℕ) → Obeys questionsNumber (questionsTable o k ws set ps bs m) (questionsDone o (chosen set ws) ps bs m (o + k)) (questionedAll o k ws set ps bs m)
+  questions-obeys ps bs m =
+      obeys questionsNumber _ _ (record { numbered = (refl, (refl, (refl, (refl, (refl, (refl, tt)))))); once = refl; nonzero = refl; zero = λ h. refl }) _
+      refl
+
 -- The file reader: 9, or 0.
 pub file-obeys : (s : List ℕ) → Obeys fileNumber (fileTable s) (fileDone s) (readFrom s)
 file-obeys s =
@@ -114,4 +121,5 @@ demand-1 = record {
   completion = completion-obeys;
   reason = reason-obeys;
   reasonCheck = check-obeys;
+  questions = questions-obeys;
 }

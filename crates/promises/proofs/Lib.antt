@@ -11,6 +11,8 @@ pub mod Objects
 pub mod Orders
 pub mod Reasoning
 pub mod PlainAsked
+pub mod PlainQuestions
+pub mod AskingAll
 pub mod Reordered
 pub mod NetAnswers
 pub mod Demand3

@@ -15,7 +15,7 @@ use Rattle.promises.specs.Engines.{Read, HasZero, ours}
 use Rattle.promises.specs.Demand3.{saidBy}
 use Rattle.promises.specs.Origins.{SameOperations, FromOrigins}
 use Rattle.promises.proofs.Tests.{chosen-of}
-use Rattle.promises.proofs.Orders.{scan-order, question-order}
+use Rattle.promises.proofs.Orders.{scan-order, question-order, questions-order}
 use Rattle.promises.proofs.Reordered.{completion-order, clash-order, reason-order, check-order}
 use Rattle.promises.proofs.NetAnswers.{keeps-said}
 use Rattle.promises.proofs.Demand3.{plain-read}
@@ -30,6 +30,7 @@ same-operations o k ws set vs set′ n p to back = record {
   completion = completion-order o k ws set vs set′ n p to back;
   reason = reason-order o k ws set vs set′ n p to back;
   reasonCheck = check-order o k ws set vs set′ n p to back;
+  questions = questions-order o k ws set vs set′ n p to back;
 }
 
 -- A net without its second word is a net.

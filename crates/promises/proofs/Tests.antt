@@ -1,9 +1,9 @@
 -- Demand 1, in plain terms: what the test of each clause of the number table says of the call.
-use Prim.Native.Nat.{ℕ, suc, _+_, _*_, _≤_, _<_}
+use Prim.Native.Nat.{ℕ, suc, _+_, _*_, _%_, _≤_, _<_}
 use mathlib.Core.Path.{_≡_, sym, _∙_}
 use mathlib.Core.Bool.{false, not}
 use mathlib.Core.List.{List}
-use mathlib.Core.Logic.{_↔_, ⊎-elim}
+use mathlib.Core.Logic.{_⊎_, _↔_, ⊎-elim}
 use native.Mathlib.Omega.{arith}
 use native.Mathlib.Decide.{decLt}
 use native.Mathlib.Nat.{le-refl}
@@ -21,7 +21,7 @@ use Rattle.theory.specs.Reasons.{never}
 use Rattle.theory.specs.Searches.{distances}
 use Rattle.theory.specs.declared.Command.{Command}
 use Rattle.theory_laws.specs.Deciding.{Decides}
-use Rattle.theory_laws.proofs.Deciding.{decides-below, decides-not, decides-same}
+use Rattle.theory_laws.proofs.Deciding.{decides-below, decides-equal, decides-either, decides-not, decides-same}
 use Rattle.theory.proofs.machine.Budgets.{ends-within, last-round, count-unique}
 use Rattle.theory.proofs.reason.Distances.{distances-small}
 use Rattle.theory.proofs.reason.Reason.{reason-exactly}
@@ -35,6 +35,8 @@ use Rattle.net.specs.Table.{checkNet, badPair, badStatement}
 use Rattle.net.specs.Good.{GoodPair, GoodStatement}
 use Rattle.net.proofs.Good.{good-pair, good-statement}
 use Rattle.clash.specs.Table.{clashSearch, nowhere}
+use Rattle.questions.specs.Pairs.{pairsIn, pairLimit}
+use Rattle.questions.specs.Table.{badPairs}
 use Rattle.promises.specs.Engines.{Read}
 use Rattle.promises.specs.Clashing.{ClashAt}
 use Rattle.promises.proofs.Clashes.{no-clash-exactly}
@@ -154,6 +156,10 @@ module _ (o k : ℕ) (ws : List ℕ) (net : Net o k ws) where
 -- Clause 8: the list is shorter than the result.
 pub clause-8 : (l all : List ℕ) → Decides (ltb (length l) (length all)) (length l < length all)
 clause-8 l all = decides-below (length l) (length all)
+
+-- Clause 10: an odd count, more than 64 pairs, or fewer bytes than pairs.
+pub clause-10 : (ps bs : List ℕ) → Decides (badPairs (length ps) (length bs)) ((length ps % 2 ≡ 1) ⊎ ((64 < pairsIn ps) ⊎ (length bs < pairsIn ps)))
+clause-10 ps bs = decides-either _ _ (decides-equal (length ps % 2) 1) (decides-either _ _ (decides-below pairLimit (pairsIn ps)) (decides-below (length bs) (pairsIn ps)))
 
 -- What a set chooses of a net that is read with it is a net of plain words.
 pub chosen-of : (o k : ℕ) (ws : List ℕ) (set : ℕ) → Read o k ws set → Net o k (chosen set ws)

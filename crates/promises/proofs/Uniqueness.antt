@@ -11,6 +11,8 @@ use Rattle.net.specs.declared.Checked.{Checked}
 use Rattle.scan.specs.Table.{ScanOutcome, scanOutcome, scanned}
 use Rattle.scan.specs.declared.Scanned.{Scanned}
 use Rattle.question.specs.Table.{QuestionOutcome, questionOutcome, questioned}
+use Rattle.questions.specs.Table.{QuestionsOutcome, questionsOutcome, questionedAll}
+use Rattle.questions.specs.declared.AskedAll.{AskedAll}
 use Rattle.clash.specs.Table.{ClashOutcome, clashOutcome, clashedBy}
 use Rattle.question.specs.declared.Asked.{Asked}
 use Rattle.clash.specs.declared.Clashed.{Clashed}
@@ -50,6 +52,13 @@ module _ (o k : ℕ) (ws : List ℕ) (set : ℕ) where
   question-unique x y marks r q m l e f =
       let p = both-are (questionOutcome r m) (questionOutcome q l) e f in
       (ap (λ (s : QuestionOutcome). s .answer) p, ap (λ (s : QuestionOutcome). s .marks) p)
+
+  -- The screenful: c and d the bytes, m and l the marks left.
+  pub questions-unique : (ps bs marks : List ℕ) (r q : AskedAll) (c d m l : List ℕ)
+      → questionsOutcome r c m ≡ questionedAll o k ws set ps bs marks → questionsOutcome q d l ≡ questionedAll o k ws set ps bs marks → (r ≡ q) × (c ≡ d) × (m ≡ l)
+  questions-unique ps bs marks r q c d m l e f =
+      let p = both-are (questionsOutcome r c m) (questionsOutcome q d l) e f in
+      (ap (λ (s : QuestionsOutcome). s .answer) p, ap (λ (s : QuestionsOutcome). s .answers) p, ap (λ (s : QuestionsOutcome). s .marks) p)
 
   -- The clash test.
   pub clash-unique : (marks : List ℕ) (r q : Clashed) (m l : List ℕ) → clashOutcome r m ≡ clashedBy o k ws set marks → clashOutcome q l ≡ clashedBy o k ws set marks → (r ≡ q) × (m ≡ l)

@@ -7,13 +7,14 @@ use Rattle.check_word.specs.Table.{wordTable}
 use Rattle.check_word.specs.declared.WordChecked.the-variants.{Legal}
 use Rattle.scan.specs.Table.{scanTable, scanDone}
 use Rattle.question.specs.Table.{questionTable, questionDone}
+use Rattle.questions.specs.Table.{questionsTable, questionsDone}
 use Rattle.theory.specs.Completion.{complete}
 use Rattle.theory.specs.Origins.{chosen}
 use Rattle.clash.specs.Table.{clashSearch, clashTable, clashDone}
 use Rattle.completion.specs.Table.{completionTable, completionDone}
 use Rattle.reason.specs.Table.{reasonTable, reasonDone}
 use Rattle.reason_check.specs.Table.{checkTable, checkDone}
-use Rattle.promises.specs.Numbers.{wordNumber, checkedNumber, scanNumber, questionNumber, clashNumber, completionNumber, reasonNumber, verdictNumber}
+use Rattle.promises.specs.Numbers.{wordNumber, checkedNumber, scanNumber, questionNumber, clashNumber, completionNumber, reasonNumber, verdictNumber, questionsNumber}
 use Rattle.promises.specs.Engines.{Engine}
 
 pub record Demand1 (e : Engine) : Type 0 where
@@ -31,3 +32,5 @@ pub record Demand1 (e : Engine) : Type 0 where
       → Obeys reasonNumber (reasonTable o k ws set x y sign d l) (reasonDone (chosen set ws) x y sign d l (o + k)) (e .reason o k ws set x y sign d l)
   pub reasonCheck : (o k : ℕ) (ws : List ℕ) (set x y sign : ℕ) (l : List ℕ)
       → Obeys verdictNumber (checkTable o k ws set x y sign) (checkDone o k (chosen set ws) x y sign l) (e .reasonCheck o k ws set x y sign l)
+  pub questions : (o k : ℕ) (ws : List ℕ) (set : ℕ) (ps bs m : List ℕ)
+      → Obeys questionsNumber (questionsTable o k ws set ps bs m) (questionsDone o (chosen set ws) ps bs m (o + k)) (e .questions o k ws set ps bs m)

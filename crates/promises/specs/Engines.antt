@@ -16,13 +16,14 @@ use Rattle.check_word.specs.declared.WordChecked.{WordChecked}
 use Rattle.scan.specs.Table.{ScanOutcome, scanOutcome, badStart, scanned}
 use Rattle.scan.specs.declared.Scanned.the-variants as answer
 use Rattle.question.specs.Table.{QuestionOutcome, questioned}
+use Rattle.questions.specs.Table.{QuestionsOutcome, questionedAll}
 use Rattle.clash.specs.Table.{ClashOutcome, clashedBy}
 use Rattle.completion.specs.Table.{CompletionOutcome, completedBy}
 use Rattle.reason.specs.Table.{ReasonOutcome, reasoned}
 use Rattle.reason_check.specs.Table.{verdict}
 use Rattle.reason_check.specs.declared.Verdict.{Verdict}
 
--- The eight operations, the test of a word first, each over objects, kinds, words, a set of origins, what is asked, and the lent buffers as they are at entry.
+-- The operations, the test of a word first, each over objects, kinds, words, a set of origins, what is asked, and the lent buffers as they are at entry.
 pub record Engine : Type 0 where
   pub wordCheck : ℕ → ℕ → ℕ → WordChecked
   pub netCheck : ℕ → ℕ → List ℕ → ℕ → Checked
@@ -32,6 +33,7 @@ pub record Engine : Type 0 where
   pub completion : ℕ → ℕ → List ℕ → ℕ → List ℕ → List ℕ → CompletionOutcome
   pub reason : ℕ → ℕ → List ℕ → ℕ → ℕ → ℕ → ℕ → List ℕ → List ℕ → ReasonOutcome
   pub reasonCheck : ℕ → ℕ → List ℕ → ℕ → ℕ → ℕ → ℕ → List ℕ → Verdict
+  pub questions : ℕ → ℕ → List ℕ → ℕ → List ℕ → List ℕ → List ℕ → QuestionsOutcome
 
 -- A net whose words have origins, and a set of origins to read it with.
 pub record Read (o k : ℕ) (ws : List ℕ) (set : ℕ) : Type 0 where
@@ -54,6 +56,7 @@ ours = record {
   completion = completedBy;
   reason = reasoned;
   reasonCheck = verdict;
+  questions = questionedAll;
 }
 
 -- What a scan leaves, done or spent, with the bytes `past` behind its marks.
@@ -81,6 +84,7 @@ withScan f = record {
   completion = ours .completion;
   reason = ours .reason;
   reasonCheck = ours .reasonCheck;
+  questions = ours .questions;
 }
 
 abbrev pub withQuestion : (ℕ → ℕ → List ℕ → ℕ → ℕ → ℕ → List ℕ → QuestionOutcome) → Engine
@@ -93,6 +97,7 @@ withQuestion f = record {
   completion = ours .completion;
   reason = ours .reason;
   reasonCheck = ours .reasonCheck;
+  questions = ours .questions;
 }
 
 abbrev pub withCompletion : (ℕ → ℕ → List ℕ → ℕ → List ℕ → List ℕ → CompletionOutcome) → Engine
@@ -105,4 +110,5 @@ withCompletion f = record {
   completion = f;
   reason = ours .reason;
   reasonCheck = ours .reasonCheck;
+  questions = ours .questions;
 }

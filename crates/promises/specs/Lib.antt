@@ -6,6 +6,7 @@ pub mod Clashing
 pub mod Demand2
 pub mod Forward
 pub mod Reasoning
+pub mod AskingAll
 pub mod Demand3
 pub mod FromKind
 pub mod Origins

@@ -6,6 +6,7 @@ use Rattle.check_word.specs.Table.{wordReply}
 use Rattle.check_word.specs.declared.WordChecked.{WordChecked}
 use Rattle.scan.specs.Table.{ScanOutcome, scanReply}
 use Rattle.question.specs.Table.{QuestionOutcome, askedReply}
+use Rattle.questions.specs.Table.{QuestionsOutcome, askedAllReply}
 use Rattle.clash.specs.Table.{ClashOutcome, clashedReply}
 use Rattle.completion.specs.Table.{CompletionOutcome, completedReply}
 use Rattle.reason.specs.Table.{ReasonOutcome, reasonedReply}
@@ -37,6 +38,9 @@ reasonNumber r = reasonedReply (r .answer) .number
 
 abbrev pub verdictNumber : Verdict → ℕ
 verdictNumber r = verdictReply r .number
+
+abbrev pub questionsNumber : QuestionsOutcome → ℕ
+questionsNumber r = askedAllReply (r .answer) .number
 
 abbrev pub fileNumber : FileOutcome → ℕ
 fileNumber r = contentsReply (r .contents) .number

@@ -9,7 +9,7 @@ use Rattle.theory.specs.Origins.{originUnit, from, among, chosen}
 use Rattle.promises.specs.Engines.{Engine, Read, HasZero}
 use Rattle.promises.specs.Demand3.{saidBy}
 
--- The six operations that answer do the same over ws, read with `set`, and over vs, read with `set′`: answers, counts and buffers.
+-- The operations that answer do the same over ws, read with `set`, and over vs, read with `set′`: answers, counts and buffers.
 pub record SameOperations (e : Engine) (o k : ℕ) (ws : List ℕ) (set : ℕ) (vs : List ℕ) (set′ : ℕ) : Type 0 where
   pub scan : (x budget : ℕ) (m : List ℕ) → e .scan o k ws set x budget m ≡ e .scan o k vs set′ x budget m
   pub question : (x y : ℕ) (m : List ℕ) → e .question o k ws set x y m ≡ e .question o k vs set′ x y m
@@ -17,6 +17,7 @@ pub record SameOperations (e : Engine) (o k : ℕ) (ws : List ℕ) (set : ℕ) (
   pub completion : (m l : List ℕ) → e .completion o k ws set m l ≡ e .completion o k vs set′ m l
   pub reason : (x y sign : ℕ) (d l : List ℕ) → e .reason o k ws set x y sign d l ≡ e .reason o k vs set′ x y sign d l
   pub reasonCheck : (x y sign : ℕ) (l : List ℕ) → e .reasonCheck o k ws set x y sign l ≡ e .reasonCheck o k vs set′ x y sign l
+  pub questions : (ps bs m : List ℕ) → e .questions o k ws set ps bs m ≡ e .questions o k vs set′ ps bs m
 
 pub record FromOrigins (e : Engine) : Type 0 where
   -- Each operation is the one on the chosen words, their origins removed, read with any set that has 0.

@@ -17,6 +17,8 @@ use Rattle.clash.specs.Table.{clashOutcome}
 use Rattle.question.specs.declared.Answer.the-variants.{None}
 use Rattle.question.specs.declared.Asked.{Asked}
 use Rattle.question.specs.declared.Asked.the-variants as asked
+use Rattle.questions.specs.Table.{questionsOutcome}
+use Rattle.questions.specs.declared.AskedAll.the-variants as askedAll
 use Rattle.clash.specs.declared.Clashed.the-variants as clashed
 use Rattle.completion.specs.Table.{CompletionOutcome, completionOutcome, completionClauses, completionDone}
 use Rattle.completion.specs.declared.Completed.the-variants as completed
@@ -38,6 +40,7 @@ refuser r = record {
   completion = λ o k ws set m l. completionOutcome (completed.Refused r) m l;
   reason = λ o k ws set x y sign d l. reasonOutcome (reasonedAs.Refused r) d l;
   reasonCheck = λ o k ws set x y sign l. verdictAs.Refused r;
+  questions = λ o k ws set ps bs m. questionsOutcome (askedAll.Refused r) bs m;
 }
 
 -- An answer turned into none.
@@ -100,4 +103,5 @@ hasty = record {
   completion = ours .completion;
   reason = ours .reason;
   reasonCheck = ours .reasonCheck;
+  questions = ours .questions;
 }

@@ -4,7 +4,7 @@ ghost use Prim.Native.Nat.{_+_, _<_, _≤_};
 ghost use lib.ListN.{length, take, drop};
 ghost use Rattle.theory.specs.Scans.{fullScan};
 ghost use Rattle.theory.specs.Origins.{chosen, NetFrom};
-ghost use Rattle.question.specs.Table.{answerAt, questionOutcome, questionClauses, questionDone, questioned};
+ghost use Rattle.question.specs.Table.{answerAt, answerNumber, questionOutcome, questionClauses, questionDone, questioned};
 ghost use Rattle.net.specs.Clauses.{call};
 use net::Checked;
 use net::Refusal;
@@ -47,7 +47,7 @@ pub fn full_scan(o: u32, k: u32, n: usize, words: &[u32], set: u32, x: u32, mark
 }
 
 // What the byte at a kind answers: U says yes, F says no.
-fn answer_at(byte: u8) -> Answer
+pub fn answer_at(byte: u8) -> Answer
     ensures { λ r. ⌜ r ≡ answerAt byte ⌝ }
 {
     if byte / 4 % 2 == 1 {
@@ -60,6 +60,18 @@ fn answer_at(byte: u8) -> Answer
         Answer::No
     } else {
         Answer::None
+    }
+}
+
+// The number of an answer.
+pub fn answer_number(answer: Answer) -> u8
+    ensures { λ r. ⌜ r ≡ answerNumber answer ⌝ }
+{
+    match answer {
+        Answer::None => 0,
+        Answer::Yes => 1,
+        Answer::No => 2,
+        Answer::Both => 3,
     }
 }
 

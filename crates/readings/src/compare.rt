@@ -51,6 +51,7 @@ fn answer(
         numbers_from(store, WORDS, case.words),
         case.first,
         case.second,
+        case.third,
         buffers,
     );
     show_reply(reply);
@@ -65,8 +66,8 @@ fn same_reply(a: Reply, b: Reply) -> bool {
 
 // Runs a case on both engines; whether they agree in the reply and in every place of the buffers.
 fn run_both(operation: Operation, case: Case, store: &[u32]) -> bool {
-    let mut ours = [0u32; 294913];
-    let mut theirs = [0u32; 294913];
+    let mut ours = [0u32; 296961];
+    let mut theirs = [0u32; 296961];
     show(b"proved");
     let proved = answer(Engine::Proved, operation, case, store, &mut ours);
     show(b"second");
@@ -76,7 +77,7 @@ fn run_both(operation: Operation, case: Case, store: &[u32]) -> bool {
 
 // Runs the case whose name stands between two places of the line.
 fn run_named(line: &[u8], from: usize, to: usize, tally: Tally) -> Tally {
-    let mut store = [0u32; 65545];
+    let mut store = [0u32; 67593];
     let name = bytes_between(line, from, to);
     let operation = operation_of(name);
     let case = read_case(operation, line, to, &mut store);

@@ -2,10 +2,11 @@
 ghost use Prim.Native.Nat.{_≤_};
 use crate::other;
 use crate::proved;
-use readings_cases::buffers::SECOND_BUFFER;
 use readings_cases::buffers::lend_list;
+use readings_cases::buffers::lend_pairs;
 use readings_cases::buffers::lend_scratch;
 use readings_cases::buffers::lend_text;
+use readings_cases::buffers::take_answers;
 use readings_cases::buffers::take_list;
 use readings_cases::buffers::take_scratch;
 use readings_cases::buffers::take_text;
@@ -77,6 +78,61 @@ fn with_marks(
     to_bytes(numbers_from(buffers, 0, size), &mut marks);
     let reply = on_marks(engine, operation, n, words, size, &mut marks);
     from_bytes(bytes_between(&marks, 0, size), buffers, 0);
+    reply
+}
+
+// A screenful of questions, with the first places of answers and marks.
+fn on_pairs(
+    engine: Engine,
+    n: Numbers,
+    words: &[u32],
+    pairs: &[u16],
+    second: usize,
+    third: usize,
+    answers: &mut [u8],
+    marks: &mut [u8],
+) -> Reply {
+    let a = least(second, answers.len());
+    let b = least(third, marks.len());
+    match engine {
+        Engine::Proved => proved::on_pairs(n, words, pairs, &mut answers[..a], &mut marks[..b]),
+        Engine::Second => other::on_pairs(n, words, pairs, &mut answers[..a], &mut marks[..b]),
+    }
+}
+
+// The same, with the three buffers.
+fn with_pairs(
+    engine: Engine,
+    n: Numbers,
+    words: &[u32],
+    first: usize,
+    second: usize,
+    third: usize,
+    buffers: &mut [u32],
+) -> Reply {
+    let mut pairs = [0u16; 2048];
+    let mut answers = [0u8; 2048];
+    let mut marks = [0u8; 2048];
+    lend_pairs(
+        first,
+        second,
+        third,
+        buffers,
+        &mut pairs,
+        &mut answers,
+        &mut marks,
+    );
+    let reply = on_pairs(
+        engine,
+        n,
+        words,
+        halves_before(&pairs, first),
+        second,
+        third,
+        &mut answers,
+        &mut marks,
+    );
+    take_answers(second, third, &answers, &marks, buffers);
     reply
 }
 
@@ -158,10 +214,10 @@ fn on_reason(engine: Engine, n: Numbers, words: &[u32], list: &[u16]) -> Reply {
     }
 }
 
-// The same, with the reason as the second buffer.
+// The same, with the reason as the first buffer.
 fn with_reason(engine: Engine, n: Numbers, words: &[u32], size: usize, buffers: &[u32]) -> Reply {
     let mut list = [0u16; 4096];
-    to_halves(numbers_from(buffers, SECOND_BUFFER, size), &mut list);
+    to_halves(numbers_from(buffers, 0, size), &mut list);
     on_reason(engine, n, words, halves_before(&list, size))
 }
 
@@ -198,7 +254,7 @@ fn with_text(engine: Engine, size: usize, buffers: &mut [u32]) -> Reply {
     reply
 }
 
-// Runs an operation with a first buffer and a second buffer of those sizes.
+// Runs an operation with a first, a second and a third buffer of those sizes.
 pub fn run(
     engine: Engine,
     operation: Operation,
@@ -206,14 +262,16 @@ pub fn run(
     words: &[u32],
     first: usize,
     second: usize,
+    third: usize,
     buffers: &mut [u32],
 ) -> Reply {
     match operation {
         Operation::CheckNet => on_words(engine, n, words),
         Operation::CheckWord => on_word(engine, n),
+        Operation::Questions => with_pairs(engine, n, words, first, second, third, buffers),
         Operation::Completion => with_list(engine, n, words, first, second, buffers),
         Operation::Reason => with_scratch(engine, n, words, first, second, buffers),
-        Operation::ReasonCheck => with_reason(engine, n, words, second, buffers),
+        Operation::ReasonCheck => with_reason(engine, n, words, first, buffers),
         Operation::File => with_file(engine, first, buffers),
         Operation::Ask => with_text(engine, first, buffers),
         _ => with_marks(engine, operation, n, words, first, buffers),

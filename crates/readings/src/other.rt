@@ -24,6 +24,17 @@ pub fn on_marks(operation: Operation, n: Numbers, words: &[u32], marks: &mut [u8
     }
 }
 
+// A screenful of questions.
+pub fn on_pairs(
+    n: Numbers,
+    words: &[u32],
+    pairs: &[u16],
+    answers: &mut [u8],
+    marks: &mut [u8],
+) -> Reply {
+    second::questions(n.o, n.k, words, n.set, pairs, answers, marks)
+}
+
 // The completion.
 pub fn on_list(n: Numbers, words: &[u32], marks: &mut [u8], list: &mut [u32]) -> Reply {
     second::completion(n.o, n.k, words, n.set, marks, list)

@@ -13,6 +13,7 @@ use strumelka::strumelka_check_word;
 use strumelka::strumelka_clash;
 use strumelka::strumelka_completion;
 use strumelka::strumelka_question;
+use strumelka::strumelka_questions;
 use strumelka::strumelka_reason;
 use strumelka::strumelka_reason_check;
 use strumelka::strumelka_scan;
@@ -42,6 +43,17 @@ pub fn on_marks(operation: Operation, n: Numbers, words: &[u32], marks: &mut [u8
         )),
         _ => reply_given(strumelka_clash(n.o, n.k, words, n.set, marks)),
     }
+}
+
+// A screenful of questions.
+pub fn on_pairs(
+    n: Numbers,
+    words: &[u32],
+    pairs: &[u16],
+    answers: &mut [u8],
+    marks: &mut [u8],
+) -> Reply {
+    reply_given(strumelka_questions(n.o, n.k, words, n.set, pairs, answers, marks))
 }
 
 // The completion.

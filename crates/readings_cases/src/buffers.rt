@@ -1,8 +1,9 @@
-// The two buffers of a case: as they are before, in the widths that an operation takes, taken back as numbers, and printed.
+// The buffers of a case: as they are before, in the widths that an operation takes, taken back as numbers, and printed.
 use crate::operations::Case;
 use crate::operations::FIRST;
 use crate::operations::Operation;
 use crate::operations::SECOND;
+use crate::operations::THIRD;
 use crate::places::bytes_between;
 use crate::places::halves_before;
 use crate::places::number_at;
@@ -16,8 +17,10 @@ use crate::widths::from_halves;
 use crate::widths::to_bytes;
 use crate::widths::to_halves;
 
-// Where the second buffer begins, after room for the first, and the size of the text of `ask`.
+// Where the second buffer begins, after room for the first, and the third; and the size of the text of `ask`.
 pub const SECOND_BUFFER: usize = 32769;
+
+pub const THIRD_BUFFER: usize = 294913;
 
 pub const TEXT_SIZE: usize = 262144;
 
@@ -26,6 +29,7 @@ fn writes_first(operation: Operation) -> bool {
     match operation {
         Operation::CheckNet => false,
         Operation::CheckWord => false,
+        Operation::Questions => false,
         Operation::ReasonCheck => false,
         Operation::File => false,
         Operation::Ask => false,
@@ -36,9 +40,18 @@ fn writes_first(operation: Operation) -> bool {
 // Whether an operation is lent a second buffer to write in.
 fn writes_second(operation: Operation) -> bool {
     match operation {
+        Operation::Questions => true,
         Operation::Completion => true,
         Operation::Reason => true,
         Operation::Ask => true,
+        _ => false,
+    }
+}
+
+// Whether an operation is lent a third buffer to write in.
+fn writes_third(operation: Operation) -> bool {
+    match operation {
+        Operation::Questions => true,
         _ => false,
     }
 }
@@ -59,6 +72,11 @@ pub fn load(operation: Operation, case: Case, store: &[u32], buffers: &mut [u32]
         buffers,
         SECOND_BUFFER,
     );
+    copy(
+        numbers_from(store, THIRD, case.third),
+        buffers,
+        THIRD_BUFFER,
+    );
     match operation {
         Operation::Ask => fill(
             buffers,
@@ -68,6 +86,33 @@ pub fn load(operation: Operation, case: Case, store: &[u32], buffers: &mut [u32]
         ),
         _ => (),
     }
+}
+
+// Pairs, the bytes for their answers and marks, as they are in the three buffers.
+pub fn lend_pairs(
+    first: usize,
+    second: usize,
+    third: usize,
+    buffers: &[u32],
+    pairs: &mut [u16],
+    answers: &mut [u8],
+    marks: &mut [u8],
+) {
+    to_halves(numbers_from(buffers, 0, first), pairs);
+    to_bytes(numbers_from(buffers, SECOND_BUFFER, second), answers);
+    to_bytes(numbers_from(buffers, THIRD_BUFFER, third), marks);
+}
+
+// Takes answers and marks back into the second and the third buffer.
+pub fn take_answers(
+    second: usize,
+    third: usize,
+    answers: &[u8],
+    marks: &[u8],
+    buffers: &mut [u32],
+) {
+    from_bytes(bytes_between(answers, 0, second), buffers, SECOND_BUFFER);
+    from_bytes(bytes_between(marks, 0, third), buffers, THIRD_BUFFER);
 }
 
 // Marks and a list, as they are in the two buffers.
@@ -124,6 +169,9 @@ pub fn show_buffers(operation: Operation, case: Case, buffers: &[u32]) {
     }
     if writes_second(operation) {
         show_list(numbers_from(buffers, SECOND_BUFFER, second_size(operation, case)));
+    }
+    if writes_third(operation) {
+        show_list(numbers_from(buffers, THIRD_BUFFER, case.third));
     }
     show(b"\n");
 }

@@ -7,4 +7,4 @@ pub mod fields; // fields.rt: numbers and lists of a line
 pub mod operations; // operations.rt: the operations and the fields of each
 pub mod show; // show.rt: what is printed
 pub mod tally; // tally.rt: how many cases were run, and how they ended
-pub mod buffers; // buffers.rt: the two buffers of a case
+pub mod buffers; // buffers.rt: the buffers of a case

@@ -1,4 +1,5 @@
 // The operations that a case can ask, and the fields of each: numbers, words, and the buffers as they are before.
+ghost use Prim.Native.Nat.{_≤_};
 use crate::fields::BAD;
 use crate::fields::Bounds;
 use crate::fields::Place;
@@ -19,6 +20,7 @@ pub enum Operation {
     CheckWord,
     Scan,
     Question,
+    Questions,
     Completion,
     Clash,
     Reason,
@@ -28,20 +30,25 @@ pub enum Operation {
     Unknown,
 }
 
-// Where the words, the first buffer and the second buffer begin in the store of a case; its numbers stand in front.
+// Where the words and the three buffers begin in the store of a case; its numbers stand in front. Every list but the words is a
+// buffer, the first of them the first.
 pub const WORDS: usize = 8;
 
 pub const FIRST: usize = 16392;
 
 pub const SECOND: usize = 49161;
 
-// A case that was read: the place after it, how many numbers and words it has, and the sizes of its buffers.
+pub const THIRD: usize = 65545;
+
+// A case that was read: the place after it, how many numbers, words and buffers it has, and the sizes of its buffers.
 pub struct Case {
     pub place: Place,
     pub numbers: usize,
     pub words: usize,
+    pub buffers: usize,
     pub first: usize,
     pub second: usize,
+    pub third: usize,
 }
 
 // The numbers of a case: o, k, the set of origins, and what follows it. The one word of a single test stands in the set's place.
@@ -68,6 +75,9 @@ pub fn operation_of(name: &[u8]) -> Operation {
     }
     if same_bytes(name, b"question") {
         return Operation::Question;
+    }
+    if same_bytes(name, b"questions") {
+        return Operation::Questions;
     }
     if same_bytes(name, b"completion") {
         return Operation::Completion;
@@ -96,13 +106,14 @@ fn file_operation_of(name: &[u8]) -> Operation {
 }
 
 // The letter of an operation's field, 0 after its last: n a number, b a byte, w words, m marks, c completed words, s scratch,
-// r a reason, f a file.
+// r a reason, f a file, p pairs, a their answers.
 fn letter_at(operation: Operation, at: usize) -> u8 {
     match operation {
         Operation::CheckNet => byte_at(b"nnwn", at),
         Operation::CheckWord => byte_at(b"nnn", at),
         Operation::Scan => byte_at(b"nnwnnnm", at),
         Operation::Question => byte_at(b"nnwnnnm", at),
+        Operation::Questions => byte_at(b"nnwnpam", at),
         Operation::Completion => byte_at(b"nnwnmc", at),
         Operation::Clash => byte_at(b"nnwnm", at),
         Operation::Reason => byte_at(b"nnwnnnnsr", at),
@@ -113,39 +124,48 @@ fn letter_at(operation: Operation, at: usize) -> u8 {
     }
 }
 
-// What a list of that letter takes.
-fn bounds_of(letter: u8) -> Bounds {
+// Where a list of that letter begins, after so many buffers.
+fn base_of(letter: u8, buffers: usize) -> usize
+    ensures { λ r. ⌜ r ≤ 65545 ⌝ }
+{
+    if letter == b'w' {
+        return WORDS;
+    }
+    match buffers {
+        0 => FIRST,
+        1 => SECOND,
+        _ => THIRD,
+    }
+}
+
+// The most numbers that a list of that letter takes.
+fn most_of(letter: u8) -> usize
+    ensures { λ r. ⌜ r ≤ 32769 ⌝ }
+{
     match letter {
-        b'w' => Bounds {
-            base: WORDS,
-            limit: WORDS + 16384,
-            largest: 4294967295,
-        },
-        b'm' => Bounds {
-            base: FIRST,
-            limit: FIRST + 2048,
-            largest: 255,
-        },
-        b'f' => Bounds {
-            base: FIRST,
-            limit: FIRST + 32769,
-            largest: 255,
-        },
-        b's' => Bounds {
-            base: FIRST,
-            limit: FIRST + 4096,
-            largest: 65535,
-        },
-        b'r' => Bounds {
-            base: SECOND,
-            limit: SECOND + 4096,
-            largest: 65535,
-        },
-        _ => Bounds {
-            base: SECOND,
-            limit: SECOND + 16384,
-            largest: 4294967295,
-        },
+        b'm' | b'p' | b'a' => 2048,
+        b's' | b'r' => 4096,
+        b'f' => 32769,
+        _ => 16384,
+    }
+}
+
+// The largest number that a list of that letter takes.
+fn largest_of(letter: u8) -> u32 {
+    match letter {
+        b'm' | b'f' | b'a' => 255,
+        b's' | b'r' | b'p' => 65535,
+        _ => 4294967295,
+    }
+}
+
+// What a list of that letter takes, after so many buffers.
+fn bounds_of(letter: u8, buffers: usize) -> Bounds {
+    let base = base_of(letter, buffers);
+    Bounds {
+        base: base,
+        limit: base + most_of(letter),
+        largest: largest_of(letter),
     }
 }
 
@@ -155,37 +175,41 @@ fn with_number(case: Case, place: Place) -> Case {
         place: place,
         numbers: next(case.numbers),
         words: case.words,
+        buffers: case.buffers,
         first: case.first,
         second: case.second,
+        third: case.third,
     }
 }
 
-// The case with a list more.
-fn with_list(case: Case, base: usize, place: Place, size: usize) -> Case {
-    if base == WORDS {
-        return Case {
-            place: place,
-            numbers: case.numbers,
-            words: size,
-            first: case.first,
-            second: case.second,
-        };
+// The case with its words.
+fn with_words(case: Case, place: Place, size: usize) -> Case {
+    Case {
+        place: place,
+        numbers: case.numbers,
+        words: size,
+        buffers: case.buffers,
+        first: case.first,
+        second: case.second,
+        third: case.third,
     }
-    if base == FIRST {
-        return Case {
-            place: place,
-            numbers: case.numbers,
-            words: case.words,
-            first: size,
-            second: case.second,
-        };
-    }
+}
+
+// The new size of the buffer of that number, if it is the one that was read; else the old one.
+fn sized(number: usize, read: usize, new: usize, old: usize) -> usize {
+    if number == read { new } else { old }
+}
+
+// The case with a buffer more.
+fn with_buffer(case: Case, place: Place, size: usize) -> Case {
     Case {
         place: place,
         numbers: case.numbers,
         words: case.words,
-        first: case.first,
-        second: size,
+        buffers: next(case.buffers),
+        first: sized(0, case.buffers, size, case.first),
+        second: sized(1, case.buffers, size, case.second),
+        third: sized(2, case.buffers, size, case.third),
     }
 }
 
@@ -211,11 +235,13 @@ fn read_field(letter: u8, line: &[u8], case: Case, store: &mut [u32]) -> Case {
     if letter == b'n' || letter == b'b' {
         return read_one(letter, line, case, store);
     }
-    let bounds = bounds_of(letter);
     let before = case.place;
-    let list = read_list(line, before, bounds, store);
+    let list = read_list(line, before, bounds_of(letter, case.buffers), store);
     let after = list.place;
-    with_list(case, bounds.base, after, list.size)
+    if letter == b'w' {
+        return with_words(case, after, list.size);
+    }
+    with_buffer(case, after, list.size)
 }
 
 // The case of which nothing was read but its operation.
@@ -224,8 +250,10 @@ fn begun(at: usize, fault: u32) -> Case {
         place: wrong(at, fault),
         numbers: 0,
         words: 0,
+        buffers: 0,
         first: 0,
         second: 0,
+        third: 0,
     }
 }
 
@@ -236,8 +264,10 @@ fn ended(line: &[u8], case: Case) -> Case {
         place: at_end(line, last),
         numbers: case.numbers,
         words: case.words,
+        buffers: case.buffers,
         first: case.first,
         second: case.second,
+        third: case.third,
     }
 }
 

@@ -27,8 +27,13 @@ fn is_no(support: &[u8], x: usize, y: usize) -> bool {
 }
 
 // 0 none, 1 yes, 2 no, 3 both.
+pub fn answer_byte(support: &[u8; 1048576], x: usize, y: usize) -> u8 {
+    byte_at(support, cell(x, y))
+}
+
+// The same as a value of a reply.
 pub fn answer(support: &[u8; 1048576], x: usize, y: usize) -> u32 {
-    byte_at(support, cell(x, y)) as u32
+    answer_byte(support, x, y) as u32
 }
 
 // The bit of a word's sign.

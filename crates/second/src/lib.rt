@@ -6,6 +6,7 @@ mod places; // places.rt: reading and writing at any place of a lent slice
 mod check; // check.rt: numbers 1 to 4 and 15 of the number table
 mod closure; // closure.rt: the table of supported statements
 mod rounds; // rounds.rt: the rounds of a scan
+mod pairs; // pairs.rt: a screenful of questions
 mod search; // search.rt: the shortest reason
 mod path; // path.rt: whether a list is a path
 mod file; // file.rt: the net file
@@ -34,6 +35,9 @@ use file::set_of;
 use file::set_start;
 use file::start_of;
 use file::wrong_place;
+use pairs::is_screenful;
+use pairs::mark_last;
+use pairs::write_answers;
 use path::shows;
 use places::clear;
 use places::entry_at;
@@ -94,6 +98,34 @@ pub fn question(
     close(node(o), n, words, set, &mut support);
     let done = scan_marks(n, words, set, node(x), whole_budget(o, k), marks);
     given(done.number, answer(&support, node(x), node(y)), done.first)
+}
+
+// A screenful of questions: the answers are read off the table, the marks are those of the scan from the last good pair's x.
+pub fn questions(
+    o: u32,
+    k: u32,
+    words: &[u32],
+    set: u32,
+    pairs: &[u16],
+    answers: &mut [u8],
+    marks: &mut [u8],
+) -> Reply {
+    let checked = net_check(o, k, words, set);
+    if checked.number != 0 {
+        return checked;
+    }
+    if !is_screenful(pairs, answers) {
+        return refused(10);
+    }
+    let n = node_count(o, k);
+    if marks.len() < n {
+        return refused(5);
+    }
+    let mut support = empty_table();
+    close(node(o), n, words, set, &mut support);
+    write_answers(o, k, &support, pairs, answers);
+    mark_last(o, k, words, set, pairs, marks);
+    refused(0)
 }
 
 // All supported words, ascending and plain.

@@ -6,6 +6,7 @@ use Rattle.net.specs.Table.{Reply, checkNet, checkedReply}
 use Rattle.check_word.specs.Table.{checkWord, wordReply}
 use Rattle.scan.specs.Table.{scanned, scanReply}
 use Rattle.question.specs.Table.{questioned, askedReply}
+use Rattle.questions.specs.Table.{questionedAll, askedAllReply}
 use Rattle.clash.specs.Table.{clashedBy, clashedReply}
 use Rattle.completion.specs.Table.{completedBy, completedReply}
 use Rattle.reason.specs.Table.{reasoned, reasonedReply}
@@ -49,6 +50,13 @@ module _ (o k : ℕ) (ws : List ℕ) (set : ℕ) (r q : Reply) where
         → (r ≡ askedReply (questioned o k ws set x y marks .answer)) × (m ≡ questioned o k ws set x y marks .marks)
         → (q ≡ askedReply (questioned o k ws set x y marks .answer)) × (l ≡ questioned o k ws set x y marks .marks) → (r ≡ q) × (m ≡ l)
     given-question-unique x y = leaves-one r q m l
+
+    -- `strumelka_questions`: c and d the bytes left.
+    pub given-questions-unique : (pairs answers c d : List ℕ)
+        → (r ≡ askedAllReply (questionedAll o k ws set pairs answers marks .answer)) × (c ≡ questionedAll o k ws set pairs answers marks .answers) × (m ≡ questionedAll o k ws set pairs answers marks .marks)
+        → (q ≡ askedAllReply (questionedAll o k ws set pairs answers marks .answer)) × (d ≡ questionedAll o k ws set pairs answers marks .answers) × (l ≡ questionedAll o k ws set pairs answers marks .marks)
+        → (r ≡ q) × (c ≡ d) × (m ≡ l)
+    given-questions-unique pairs answers c d = leaves-two r q c d m l
 
     -- `strumelka_clash`.
     pub given-clash-unique : (r ≡ clashedReply (clashedBy o k ws set marks .answer)) × (m ≡ clashedBy o k ws set marks .marks)

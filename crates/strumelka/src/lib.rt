@@ -4,6 +4,7 @@ ghost use Rattle.net.specs.Table.{checkNet, checkedReply};
 ghost use Rattle.check_word.specs.Table.{checkWord, wordReply};
 ghost use Rattle.scan.specs.Table.{scanned, scanReply};
 ghost use Rattle.question.specs.Table.{questioned, askedReply};
+ghost use Rattle.questions.specs.Table.{questionedAll, askedAllReply};
 ghost use Rattle.clash.specs.Table.{clashedBy, clashedReply};
 ghost use Rattle.completion.specs.Table.{completedBy, completedReply};
 ghost use Rattle.reason.specs.Table.{reasoned, reasonedReply};
@@ -11,6 +12,7 @@ ghost use Rattle.reason_check.specs.Table.{verdict, verdictReply};
 use check_word::check_word;
 use clash::find_clash;
 use completion::complete_net;
+use library_answer::asked_all_given;
 use library_answer::asked_given;
 use library_answer::clashed_given;
 use library_answer::completed_given;
@@ -22,6 +24,7 @@ use library_reply::word_given;
 use net::Reply;
 use net::check_net;
 use question::ask_question;
+use questions::ask_all;
 use reason::find_reason;
 use reason_check::check_reason;
 use scan::scan;
@@ -74,6 +77,24 @@ pub extern "C" fn strumelka_question(
         × (now (marks .exit) ≡ questioned o k (now (words .entry)) set x y (now (marks .entry)) .marks) ⌝ }
 {
     asked_given(ask_question(o, k, words, set, x, y, marks))
+}
+
+// The questions of all pairs, x then y, with room for a byte for each and for marks.
+#[no_mangle]
+pub extern "C" fn strumelka_questions(
+    o: u32,
+    k: u32,
+    words: &[u32],
+    set: u32,
+    pairs: &[u16],
+    answers: &mut [u8],
+    marks: &mut [u8],
+) -> Reply
+    ensures { λ r. ⌜ (r ≡ askedAllReply (questionedAll o k (now (words .entry)) set (now (pairs .entry)) (now (answers .entry)) (now (marks .entry)) .answer))
+        × (now (answers .exit) ≡ questionedAll o k (now (words .entry)) set (now (pairs .entry)) (now (answers .entry)) (now (marks .entry)) .answers)
+        × (now (marks .exit) ≡ questionedAll o k (now (words .entry)) set (now (pairs .entry)) (now (answers .entry)) (now (marks .entry)) .marks) ⌝ }
+{
+    asked_all_given(ask_all(o, k, words, set, pairs, answers, marks))
 }
 
 // The completion, with room for marks and for the list.

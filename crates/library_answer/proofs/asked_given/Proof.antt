@@ -26,5 +26,6 @@ asked-given-spec =
     (search needs)
     (search needs)
     (search needs)
+    (search needs)
     returns
     returns-2)
