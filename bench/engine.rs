@@ -44,6 +44,7 @@ pub struct Engine {
     ) -> Answer,
     pub completion:
         fn(o: u32, k: u32, words: &[u32], set: u32, marks: &mut [u8], list: &mut [u32]) -> Answer,
+    pub compact: fn(o: u32, k: u32, list: &mut [u32], marks: &mut [u8]) -> Answer,
     pub reason: fn(
         o: u32,
         k: u32,

@@ -14,7 +14,10 @@ mod proved;
 mod random;
 
 use engine::{Answer, Engine};
-use nets::{head_of, random_net, tail_of, word, Net, ALL_ORIGINS, ORIGIN, ORIGINS};
+use nets::{
+    head_of, plain as plain_of, random_net, tail_of, word, Net, ALL_ORIGINS, ORIGIN, ORIGINS,
+    WORD_LIMIT,
+};
 use random::Random;
 
 const SEED: u64 = 1;
@@ -35,6 +38,7 @@ enum Operation {
     SingleQuestions,
     Reason,
     Completion,
+    Compact,
 }
 
 const OPERATIONS: [(Operation, &str); 5] = [
@@ -60,6 +64,7 @@ struct Shape {
 /// The buffers of one engine.
 #[derive(Clone, PartialEq)]
 struct Room {
+    links: Vec<u32>,
     answers: Vec<u8>,
     marks: Vec<u8>,
     words_list: Vec<u32>,
@@ -88,6 +93,14 @@ fn main() {
     );
     println!("\n64 questions about one node, in one call and one by one:\n");
     print_screenful(ratios, &random_shape(100, 800, 8_000));
+    println!("\nCompaction of a list of plain words, written anew for each call:\n");
+    print_compaction(
+        ratios,
+        &[
+            random_shape(100, 800, 8_000),
+            repeated_shape(100, 800, 8_000),
+        ],
+    );
     println!("\nHow a scan's time grows with words (random links on 1,024 nodes):\n");
     let sizes = [1_000, 4_000, 16_000, 64_000, 256_000, 1_024_000];
     print_growth(ratios, &sizes.map(|size| random_shape(24, 1000, size)));
@@ -111,6 +124,18 @@ fn random_shape(o: usize, k: usize, size: usize) -> Shape {
         y,
         sign: 1,
     }
+}
+
+/// Random links, repeated until there are as many words as are allowed.
+fn repeated_shape(o: usize, k: usize, size: usize) -> Shape {
+    let mut shape = random_shape(o, k, size);
+    let words = &mut shape.net.words;
+    let mut random = Random::new(SEED, WORD_LIMIT as u64);
+    while words.len() < WORD_LIMIT {
+        words.push(words[random.below(size)]);
+    }
+    shape.name = format!("{}, repeated to {} words", shape.name, WORD_LIMIT);
+    shape
 }
 
 fn chain_shape(nodes: usize) -> Shape {
@@ -186,6 +211,29 @@ fn print_screenful(ratios: bool, shape: &Shape) {
         at_once.proved / at_once.plain,
         at_once.proved / one_by_one.proved
     );
+}
+
+fn print_compaction(ratios: bool, shapes: &[Shape]) {
+    println!(
+        "| net | words left | {}proved / plain |",
+        if ratios { "" } else { "proved | plain | " }
+    );
+    println!("|---|---|{}---|", if ratios { "" } else { "---|---|" });
+    for shape in shapes {
+        let best = measure(shape, Operation::Compact);
+        let times = if ratios {
+            String::new()
+        } else {
+            format!("{} | {} | ", time(best.proved), time(best.plain))
+        };
+        println!(
+            "| {} | {} | {}{:.2} |",
+            shape.name,
+            best.answer.first,
+            times,
+            best.proved / best.plain
+        );
+    }
 }
 
 fn print_growth(ratios: bool, shapes: &[Shape]) {
@@ -290,11 +338,19 @@ fn opaque(engine: &Engine) -> &Engine {
 fn room_for(shape: &Shape) -> Room {
     let nodes = shape.net.nodes();
     Room {
+        links: vec![0; shape.net.words.len()],
         answers: vec![0; SCREENFUL],
         marks: vec![0; nodes],
         words_list: vec![0; 2 * nodes * shape.net.k as usize],
         scratch: vec![0; 2 * nodes],
         reason_list: vec![0; 2 * nodes + 3],
+    }
+}
+
+/// The words without their origins, into a list of as many places.
+fn write_plain(words: &[u32], list: &mut [u32]) {
+    for (place, &word) in list.iter_mut().zip(words) {
+        *place = plain_of(word);
     }
 }
 
@@ -360,5 +416,9 @@ fn call(engine: &Engine, operation: Operation, shape: &Shape, room: &mut Room) -
             &mut room.marks,
             &mut room.words_list,
         ),
+        Operation::Compact => {
+            write_plain(words, &mut room.links);
+            (engine.compact)(o, k, &mut room.links, &mut room.marks)
+        }
     }
 }

@@ -28,6 +28,7 @@ pub const ENGINE: Engine = Engine {
     question,
     questions,
     completion,
+    compact,
     reason,
 };
 
@@ -38,6 +39,9 @@ fn refused<T>(number: u32) -> Result<T, Answer> {
     Err(Answer::new(number, 0, 0))
 }
 
+/// Plain words have origin 0 alone, and are read with the set of it.
+const PLAIN: u32 = 1;
+
 /// The operation on the net, if that passes numbers 1, 2, 15 and 3.
 fn on_net(
     o: u32,
@@ -46,7 +50,11 @@ fn on_net(
     set: u32,
     operation: impl FnOnce(&Net) -> Outcome,
 ) -> Answer {
-    match Net::checked(o, k, words, set).and_then(|net| operation(&net)) {
+    given(Net::checked(o, k, words, set, ORIGINS as u32).and_then(|net| operation(&net)))
+}
+
+fn given(outcome: Outcome) -> Answer {
+    match outcome {
         Ok(answer) | Err(answer) => answer,
     }
 }
@@ -136,6 +144,50 @@ fn completion(
     })
 }
 
+fn compact(o: u32, k: u32, list: &mut [u32], marks: &mut [u8]) -> Answer {
+    given(compact_plain(o, k, list, marks))
+}
+
+fn compact_plain(o: u32, k: u32, list: &mut [u32], marks: &mut [u8]) -> Outcome {
+    let Net { objects, nodes, .. } = Net::checked(o, k, list, PLAIN, 1)?;
+    let Some(marks) = marks.get_mut(..nodes) else {
+        return refused(5);
+    };
+    list.sort_unstable();
+    let mut size = remove_repeats(list);
+    for at in (0..size).rev() {
+        // The link goes behind the others, and comes back where they do not support it.
+        list[at..size].rotate_left(1);
+        let (others, link) = list[..size].split_at(size - 1);
+        let net = Net {
+            objects,
+            nodes,
+            words: others,
+            set: PLAIN,
+        };
+        if net.supports(link[0], marks) {
+            size -= 1;
+        } else {
+            list[at..size].rotate_right(1);
+        }
+    }
+    list[size..].fill(0);
+    marks.fill(0);
+    Ok(Answer::new(0, size as u32, 0))
+}
+
+/// The words of a sorted list, each once, into its front: how many they are.
+fn remove_repeats(list: &mut [u32]) -> usize {
+    let mut size = 0;
+    for at in 0..list.len() {
+        if size == 0 || list[at] != list[size - 1] {
+            list[size] = list[at];
+            size += 1;
+        }
+    }
+    size
+}
+
 #[allow(clippy::too_many_arguments)]
 fn reason(
     o: u32,
@@ -164,7 +216,7 @@ fn reason(
     })
 }
 
-/// A net that passed numbers 1, 2, 15 and 3.
+/// A net that passed numbers 1, 2, 15 and 3, or 1 to 3 where its words are plain.
 struct Net<'a> {
     objects: usize,
     nodes: usize,
@@ -173,7 +225,15 @@ struct Net<'a> {
 }
 
 impl<'a> Net<'a> {
-    fn checked(o: u32, k: u32, words: &'a [u32], set: u32) -> Result<Net<'a>, Answer> {
+    /// The net, if its words have one of the first so many origins. One origin means that they are plain: then all bits above
+    /// the head are the tail's.
+    fn checked(
+        o: u32,
+        k: u32,
+        words: &'a [u32],
+        set: u32,
+        origins: u32,
+    ) -> Result<Net<'a>, Answer> {
         let objects = o as usize;
         let nodes = objects + k as usize;
         if nodes > NODE_LIMIT {
@@ -185,11 +245,11 @@ impl<'a> Net<'a> {
         if set > ALL_ORIGINS {
             return refused(15);
         }
-        let known = |word: u32| origin_of(word) < ORIGINS as u32;
+        let known = |word: u32| origin_of(word) < origins;
         let cause = |word: u32| {
-            if !known(word) {
+            if !known(word) && origins > 1 {
                 CAUSE_ORIGIN
-            } else if tail_of(word) >= nodes {
+            } else if !known(word) || tail_of(word) >= nodes {
                 CAUSE_TAIL
             } else {
                 CAUSE_HEAD
@@ -251,13 +311,27 @@ impl<'a> Net<'a> {
     fn scan(&self, x: usize, budget: u32, marks: &mut [u8]) -> (bool, u32) {
         marks.fill(0);
         marks[x] = T | U;
-        run_rounds(budget, || {
-            command::<0, true, T, T>(self.words, self.set, marks)
-                | command::<0, false, U, U>(self.words, self.set, marks)
-                | command::<0, true, F, F>(self.words, self.set, marks)
-                | command::<1, false, U, F>(self.words, self.set, marks)
-                | command::<1, true, U, F>(self.words, self.set, marks)
-        })
+        run_rounds(budget, || self.round(marks))
+    }
+
+    /// The five commands; whether one of them set a mark.
+    #[inline(always)]
+    fn round(&self, marks: &mut [u8]) -> bool {
+        command::<0, true, T, T>(self.words, self.set, marks)
+            | command::<0, false, U, U>(self.words, self.set, marks)
+            | command::<0, true, F, F>(self.words, self.set, marks)
+            | command::<1, false, U, F>(self.words, self.set, marks)
+            | command::<1, true, U, F>(self.words, self.set, marks)
+    }
+
+    /// Whether the net supports what a word says: the scan from its tail, which stops when its head is marked so.
+    fn supports(&self, word: u32, marks: &mut [u8]) -> bool {
+        let (x, y) = (tail_of(word), head_of(word));
+        let wanted = if word % 2 == 0 { U } else { F };
+        marks.fill(0);
+        marks[x] = T | U;
+        while marks[y] & wanted == 0 && self.round(marks) {}
+        marks[y] & wanted != 0
     }
 
     /// The scan with a budget that no net spends.

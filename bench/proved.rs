@@ -62,6 +62,14 @@ mod c {
             list: *mut u32,
             list_len: usize,
         ) -> Answer;
+        pub fn strumelka_compact(
+            o: u32,
+            k: u32,
+            list: *mut u32,
+            list_len: usize,
+            marks: *mut u8,
+            marks_len: usize,
+        ) -> Answer;
         pub fn strumelka_reason(
             o: u32,
             k: u32,
@@ -86,6 +94,7 @@ pub const ENGINE: Engine = Engine {
     question,
     questions,
     completion,
+    compact,
     reason,
 };
 
@@ -178,6 +187,19 @@ fn completion(
             marks.len(),
             list.as_mut_ptr(),
             list.len(),
+        )
+    }
+}
+
+fn compact(o: u32, k: u32, list: &mut [u32], marks: &mut [u8]) -> Answer {
+    unsafe {
+        c::strumelka_compact(
+            o,
+            k,
+            list.as_mut_ptr(),
+            list.len(),
+            marks.as_mut_ptr(),
+            marks.len(),
         )
     }
 }

@@ -190,6 +190,17 @@ struct strumelka_answer strumelka_clash(
     uint32_t o, uint32_t k, const uint32_t *words, size_t words_len, uint32_t set,
     uint8_t *marks, size_t marks_len);
 
+/* Compaction: a list of plain words loses every link that says nothing new. It is sorted where it stands, repeats go, and
+ * then, from the highest word down, each link that the links still there, without it, support. The list supports what it
+ * did before, and none of its links is supported by the others.
+ *   0        first = the words left, which stand ascending in the front of list; the places after them are zero
+ *   1, 2, 3  as in strumelka_check_net, the list being the words; a word of STRUMELKA_ORIGIN(1) or more is none of a
+ *            plain list, and its cause is STRUMELKA_CAUSE_TAIL
+ *   5        marks_len is below STRUMELKA_MARKS(o, k); list and marks unchanged
+ * With 0 the first o + k bytes of marks are zero afterwards. */
+struct strumelka_answer strumelka_compact(
+    uint32_t o, uint32_t k, uint32_t *list, size_t list_len, uint8_t *marks, size_t marks_len);
+
 /* The shortest reason for a statement: node x is of kind y (sign STRUMELKA_IS), or is not (STRUMELKA_IS_NOT). The list
  * begins with the sizes of the path's first and second part, and the nodes of both follow.
  *   0            first = the places written to the front of list; places after them unchanged

@@ -22,6 +22,10 @@ pub fn draw_case<'a>(
     if operation.fields.contains(&Field::Path) {
         draw_path(random, net, operations, &mut case);
     }
+    if operation.fields.contains(&Field::Links) && net.words.len() < 20 && random.chance(25) {
+        let list = completed(net, operations);
+        case.set(Field::Links, list);
+    }
     fit_to_pairs(random, &mut case);
     fit_to_result(random, net, &mut case);
     case
@@ -34,6 +38,7 @@ fn draw_field(random: &mut Random, net: &Net, field: Field) -> Vec<u32> {
         Field::Objects => vec![net.o],
         Field::Kinds => vec![net.k],
         Field::Words => net.words.clone(),
+        Field::Links => draw_plain(random, net),
         Field::Set => vec![draw_set(random)],
         Field::Word => vec![draw_word(random, net)],
         Field::Node => vec![draw_node(random, net)],
@@ -53,6 +58,39 @@ fn draw_field(random: &mut Random, net: &Net, field: Field) -> Vec<u32> {
         Field::File => draw_file(random, net),
         Field::Byte => vec![random.below(256) as u32],
     }
+}
+
+/// The words of the net without their origins, and now and then as they are.
+fn draw_plain(random: &mut Random, net: &Net) -> Vec<u32> {
+    let mut words = net.words.clone();
+    if random.chance(90) {
+        words.iter_mut().for_each(|word| *word = plain(*word));
+    }
+    words
+}
+
+/// All that a net of a few nodes supports, in descending order; nothing for another.
+fn completed(net: &Net, operations: &[Operation]) -> Vec<u32> {
+    let operation = operations.iter().find(|it| it.name == "completion");
+    let operation = operation.expect("the archive completes nets");
+    let fill = |&field: &Field| match field {
+        Field::Objects => vec![net.o],
+        Field::Kinds => vec![net.k],
+        Field::Words => net.words.clone(),
+        Field::Set => vec![ALL_ORIGINS],
+        Field::Marks => vec![0; net.nodes()],
+        _ => vec![0; 200],
+    };
+    let case = Case {
+        operation,
+        values: operation.fields.iter().map(fill).collect(),
+    };
+    let outcome = run(&case, 0).expect("the archive keeps to its memory");
+    let size = match outcome.answer.number {
+        0 => outcome.answer.first as usize,
+        _ => 0,
+    };
+    outcome.lists[1][..size].iter().rev().copied().collect()
 }
 
 /// As many bytes for answers as there are pairs, or about as many.
@@ -224,10 +262,11 @@ fn draw_budget(random: &mut Random, count: u32, nodes: u32) -> u32 {
 /// A net file with some questions, its bytes one by one, now and then damaged: one with a set of origins, or one of plain words.
 fn draw_file(random: &mut Random, net: &Net) -> Vec<u32> {
     let with_set = random.chance(60);
-    let mut words = net.words.clone();
-    if !with_set && random.chance(90) {
-        words.iter_mut().for_each(|word| *word = plain(*word));
-    }
+    let words = if with_set {
+        net.words.clone()
+    } else {
+        draw_plain(random, net)
+    };
     let questions: Vec<u32> = (0..random.below(7))
         .map(|_| draw_node(random, net) & 0xffff | draw_kind(random, net) << 16)
         .collect();

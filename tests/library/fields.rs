@@ -5,6 +5,7 @@ pub enum Field {
     Objects,
     Kinds,
     Words,
+    Links,
     Set,
     Word,
     Node,
@@ -48,10 +49,11 @@ const fn shape(name: &'static str, field: Field, width: usize, most: usize, lent
     }
 }
 
-static SHAPES: [Shape; 18] = [
+static SHAPES: [Shape; 19] = [
     number("o", Field::Objects),
     number("k", Field::Kinds),
     shape("words", Field::Words, 4, 16_384, false),
+    shape("links", Field::Links, 4, 16_384, true),
     number("set", Field::Set),
     number("word", Field::Word),
     number("node", Field::Node),

@@ -5,8 +5,8 @@ use crate::call::{run, Outcome};
 use crate::case::Case;
 use crate::draw::draw_case;
 use crate::fields::Field;
-use crate::nets::{draw_origin, random_net, Net, ALL_ORIGINS, WORD_LIMIT};
-use crate::operations::Operation;
+use crate::nets::{draw_origin, plain, random_net, Net, ALL_ORIGINS, WORD_LIMIT};
+use crate::operations::{Effort, Operation};
 use crate::random::Random;
 use crate::tally::Tally;
 
@@ -20,30 +20,54 @@ pub fn calls_at_limit(
     for (net, set, answer) in refused_nets(&mut random) {
         for operation in on_nets(operations) {
             let mut case = draw_case(&mut random, &net, operations, operation);
+            if answer.number == 15 && !operation.fields.contains(&Field::Set) {
+                continue;
+            }
             case.set(Field::Set, vec![set]);
             let expected = Outcome::unchanged(&case, answer);
             hold(&case, &expected, tally)?;
         }
     }
-    for (o, k, size) in [(0, 1, 2), (24, 1000, 16_000)] {
+    let shapes: [(usize, usize, usize, &[Effort]); 3] = [
+        (
+            0,
+            1,
+            2,
+            &[Effort::Once, Effort::EveryNode, Effort::EveryWord],
+        ),
+        (9, 16, 200, &[Effort::EveryWord]),
+        (24, 1000, 16_000, &[Effort::Once]),
+    ];
+    for (o, k, size, efforts) in shapes {
         let mut few = random_net(&mut random, o, k, size, 20);
         few.words
             .iter_mut()
             .for_each(|word| *word += draw_origin(&mut random));
         let many = repeated(&mut random, &few);
-        for operation in on_nets(operations).filter(|it| k == 1 || !it.from_every_node) {
+        for operation in on_nets(operations).filter(|it| efforts.contains(&it.effort)) {
             let mut case = draw_case(&mut random, &many, operations, operation);
             case.set(Field::Set, vec![random.below(16) as u32]);
+            case.set(Field::Links, without_origins(&many.words));
             let whole = case.clone();
             case.set(Field::Words, few.words.clone());
-            hold(&whole, &run(&case, 0)?, tally)?;
+            case.set(Field::Links, without_origins(&few.words));
+            let mut expected = run(&case, 0)?;
+            if operation.fields.contains(&Field::Links) {
+                expected.lists[0].resize(many.words.len(), 0);
+            }
+            hold(&whole, &expected, tally)?;
         }
     }
     Ok(())
 }
 
+fn without_origins(words: &[u32]) -> Vec<u32> {
+    words.iter().map(|&word| plain(word)).collect()
+}
+
 fn on_nets(operations: &[Operation]) -> impl Iterator<Item = &Operation> {
-    let lent_words = |it: &&Operation| it.fields.contains(&Field::Words);
+    let lent_words =
+        |it: &&Operation| it.fields.contains(&Field::Words) || it.fields.contains(&Field::Links);
     operations
         .iter()
         .filter(|it| it.call.is_some())
@@ -89,7 +113,7 @@ fn hold(case: &Case, expected: &Outcome, tally: &mut Tally) -> Result<(), String
     Err(format!(
         "{} with {} words\nexpected: {}\narchive:  {}",
         case.operation.name,
-        case.values_of(Field::Words).len(),
+        case.values_of(Field::Words).len() + case.values_of(Field::Links).len(),
         expected,
         found
     ))

@@ -22,7 +22,7 @@ use std::io::{self, BufWriter, Write};
 use std::process::exit;
 
 use nets::Net;
-use operations::Operation;
+use operations::{Effort, Operation};
 use random::Random;
 use tally::Tally;
 
@@ -74,14 +74,20 @@ fn draw_cases(seed: u64, cases: u64) -> Result<(), String> {
     Ok(())
 }
 
-/// An operation that works from every node is rare where that takes long, and left to the benchmark where it takes very long.
+/// An operation is rare where it takes long, and left to the benchmark where it takes very long.
 fn is_quick(random: &mut Random, net: &Net, operation: &Operation) -> bool {
-    let share = match net.nodes() * net.words.len() {
+    let (nodes, words) = (net.nodes(), net.words.len());
+    let steps = match operation.effort {
+        Effort::Once => 0,
+        Effort::EveryNode => nodes * words,
+        Effort::EveryWord => nodes * words * words,
+    };
+    let share = match steps {
         0..=50_000 => 100,
         50_001..=1_000_000 => 2,
         _ => 0,
     };
-    !operation.from_every_node || random.chance(share)
+    random.chance(share)
 }
 
 fn replay_file(cases: &str, printed: &str) -> Result<(), String> {

@@ -1,7 +1,5 @@
 /* The operations that a case for `readings` can ask. Cases are drawn, read, run on the archive and printed by this table. The calls go
  * through the header, so that its types and the order of parameters and of the answer's fields are tried with them. */
-#include <stdbool.h>
-
 #include "strumelka.h"
 
 /* The parts of a word are those that it is put together from, and a set has the origins that it is put together from. */
@@ -18,14 +16,17 @@ struct field {
     size_t length;
 };
 
+/* Once, from every node, or from every node for every word. */
+enum effort { ONCE, EVERY_NODE, EVERY_WORD };
+
 struct operation {
     const char *name;
     /* The kinds of its fields, in the order of the case and of the C parameters: fields.rs says what each is. */
     const char *fields;
     /* What a long run has to meet: a number of the table, N=V for number N with the first value V, or N=V,W with both values. */
     const char *outcomes;
-    /* Whether one of the engines works from every node for it, so that it is rarely drawn for a large net. */
-    bool from_every_node;
+    /* How often one of the engines goes through the net for it. The more often, the smaller the nets are that it is drawn for. */
+    enum effort effort;
     /* Calls it and takes its number and values; null where the archive does not have it. */
     void (*call)(const struct field *fields, uint32_t answer[3]);
 };
@@ -36,25 +37,27 @@ struct operation {
 #define WORDS(i) (uint32_t *)fields[i].list, fields[i].length
 #define NET NUMBER(0), NUMBER(1), WORDS(2), NUMBER(3)
 
-/* Name, fields, outcomes, from every node; then the arguments of the C function. */
-#define EXPORTED(_)                                                                        \
-    _(check_word, "o k word", "0 1 3=0,1 3=0,2 3=0,3", false,                              \
-      NUMBER(0), NUMBER(1), NUMBER(2))                                                     \
-    _(check_net, "o k words set", "0 1 2 15 3", false,                                     \
-      NET)                                                                                 \
-    _(scan, "o k words set node budget marks", "0 1 2 15 3 4 5 6", false,                  \
-      NET, NUMBER(4), NUMBER(5), BYTES(6))                                                 \
-    _(question, "o k words set node kind marks", "0=0 0=1 0=2 0=3 1 2 15 3 4 5", true,     \
-      NET, NUMBER(4), NUMBER(5), BYTES(6))                                                 \
-    _(questions, "o k words set pairs answers marks", "0 1 2 15 3 10 5", true,             \
-      NET, HALVES(4), BYTES(5), BYTES(6))                                                  \
-    _(completion, "o k words set marks list", "0 1 2 15 3 5 8", true,                      \
-      NET, BYTES(4), WORDS(5))                                                             \
-    _(clash, "o k words set marks", "0 1 2 15 3 5 7", true,                                \
-      NET, BYTES(4))                                                                       \
-    _(reason, "o k words set node kind sign scratch reason", "0 1 2 15 3 4 5 7 8", false,  \
-      NET, NUMBER(4), NUMBER(5), NUMBER(6), HALVES(7), HALVES(8))                          \
-    _(reason_check, "o k words set node kind sign path", "0=0 0=1 1 2 15 3 4", false,      \
+/* Name, fields, outcomes, effort; then the arguments of the C function. */
+#define EXPORTED(_)                                                                             \
+    _(check_word, "o k word", "0 1 3=0,1 3=0,2 3=0,3", ONCE,                                    \
+      NUMBER(0), NUMBER(1), NUMBER(2))                                                          \
+    _(check_net, "o k words set", "0 1 2 15 3", ONCE,                                           \
+      NET)                                                                                      \
+    _(scan, "o k words set node budget marks", "0 1 2 15 3 4 5 6", ONCE,                        \
+      NET, NUMBER(4), NUMBER(5), BYTES(6))                                                      \
+    _(question, "o k words set node kind marks", "0=0 0=1 0=2 0=3 1 2 15 3 4 5", EVERY_NODE,    \
+      NET, NUMBER(4), NUMBER(5), BYTES(6))                                                      \
+    _(questions, "o k words set pairs answers marks", "0 1 2 15 3 10 5", EVERY_NODE,            \
+      NET, HALVES(4), BYTES(5), BYTES(6))                                                       \
+    _(completion, "o k words set marks list", "0 1 2 15 3 5 8", EVERY_NODE,                     \
+      NET, BYTES(4), WORDS(5))                                                                  \
+    _(clash, "o k words set marks", "0 1 2 15 3 5 7", EVERY_NODE,                               \
+      NET, BYTES(4))                                                                            \
+    _(compact, "o k links marks", "0 1 2 3 5", EVERY_WORD,                                      \
+      NUMBER(0), NUMBER(1), WORDS(2), BYTES(3))                                                 \
+    _(reason, "o k words set node kind sign scratch reason", "0 1 2 15 3 4 5 7 8", ONCE,        \
+      NET, NUMBER(4), NUMBER(5), NUMBER(6), HALVES(7), HALVES(8))                               \
+    _(reason_check, "o k words set node kind sign path", "0=0 0=1 1 2 15 3 4", ONCE,            \
       NET, NUMBER(4), NUMBER(5), NUMBER(6), HALVES(7))
 
 static void take(struct strumelka_answer given, uint32_t answer[3])
@@ -64,18 +67,18 @@ static void take(struct strumelka_answer given, uint32_t answer[3])
     answer[2] = given.second;
 }
 
-#define CALL(name, kinds, outcomes, from_every_node, ...)                    \
+#define CALL(name, kinds, outcomes, effort, ...)                             \
     static void call_##name(const struct field *fields, uint32_t answer[3])  \
     {                                                                        \
         take(strumelka_##name(__VA_ARGS__), answer);                         \
     }
 EXPORTED(CALL)
 
-#define LINE(name, kinds, outcomes, from_every_node, ...) {#name, kinds, outcomes, from_every_node, call_##name},
+#define LINE(name, kinds, outcomes, effort, ...) {#name, kinds, outcomes, effort, call_##name},
 
 const struct operation operations[] = {
     EXPORTED(LINE)
-    {"file", "file", "0 9=0 9=1 9=2 9=3 9=4", false, NULL},
-    {"ask", "file byte", "0", true, NULL},
+    {"file", "file", "0 9=0 9=1 9=2 9=3 9=4", ONCE, NULL},
+    {"ask", "file byte", "0", EVERY_NODE, NULL},
 };
 const size_t operations_len = sizeof operations / sizeof operations[0];

@@ -16,13 +16,23 @@ pub struct Handed {
 /// Calls an operation of the archive and puts its number and values into the second argument.
 type Call = unsafe extern "C" fn(*const Handed, *mut [u32; 3]);
 
+/// How often one of the engines goes through the net for an operation.
+#[repr(C)]
+#[derive(Clone, Copy, PartialEq, Eq)]
+#[allow(dead_code)]
+pub enum Effort {
+    Once,
+    EveryNode,
+    EveryWord,
+}
+
 /// A line of the table as C has it.
 #[repr(C)]
 struct Line {
     name: *const c_char,
     fields: *const c_char,
     outcomes: *const c_char,
-    from_every_node: bool,
+    effort: Effort,
     call: Option<Call>,
 }
 
@@ -44,7 +54,7 @@ pub struct Operation {
     pub name: &'static str,
     pub fields: Vec<Field>,
     pub outcomes: Vec<Met>,
-    pub from_every_node: bool,
+    pub effort: Effort,
     pub call: Option<Call>,
 }
 
@@ -60,7 +70,7 @@ fn read_line(line: &Line) -> Operation {
         name: text(line.name),
         fields: text(line.fields).split(' ').map(Field::named).collect(),
         outcomes: text(line.outcomes).split(' ').map(read_outcome).collect(),
-        from_every_node: line.from_every_node,
+        effort: line.effort,
         call: line.call,
     }
 }

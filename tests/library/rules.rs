@@ -6,7 +6,7 @@ use std::collections::BTreeSet;
 use crate::call::Outcome;
 use crate::case::Case;
 use crate::fields::Field;
-use crate::nets::{head_of, is_chosen, plain, tail_of, word};
+use crate::nets::{head_of, is_chosen, plain, tail_of, word, ALL_ORIGINS};
 
 const SMALL_NET: usize = 7;
 /// The answer to a pair that is bad.
@@ -39,6 +39,20 @@ fn supported(o: usize, nodes: usize, words: &[u32], origins: u32) -> BTreeSet<u3
             return set;
         }
     }
+}
+
+/// The plain words that are left where each link, from the highest down, goes if the others support it.
+fn compacted(o: usize, nodes: usize, words: &[u32]) -> BTreeSet<u32> {
+    let mut left: BTreeSet<u32> = words.iter().copied().collect();
+    let all: Vec<u32> = left.iter().rev().copied().collect();
+    for it in all {
+        left.remove(&it);
+        let others: Vec<u32> = left.iter().copied().collect();
+        if !supported(o, nodes, &others, ALL_ORIGINS).contains(&it) {
+            left.insert(it);
+        }
+    }
+    left
 }
 
 /// The statements that the net of a small case supports.
@@ -80,6 +94,12 @@ pub fn held_to_rules(case: &Case, found: &Outcome) -> Result<bool, String> {
             let pairs = case.values_of(Field::Pairs).chunks(2);
             let words = pairs.map(|pair| net.word(pair[0], pair[1]).unwrap_or(BAD_PAIR));
             words.zip(&found.lists[0]).all(|(word, &byte)| word == byte)
+        }
+        "compact" => {
+            let left = compacted(o, nodes, case.values_of(Field::Links));
+            let size = found.lists[0].len();
+            let freed = std::iter::repeat(&0).take(size - left.len());
+            left.iter().chain(freed).eq(&found.lists[0])
         }
         _ => return Ok(false),
     };

@@ -20,6 +20,7 @@ use Rattle.clash.specs.Table.{ClashOutcome, clashOutcome, clashNodes, firstBoth
 use Rattle.clash.specs.declared.Clashed.the-variants as clashed
 use Rattle.completion.specs.Table.{CompletionOutcome, completionOutcome, completionClauses, completionDone, completedBy, completedReply}
 use Rattle.completion.specs.declared.Completed.the-variants as completed
+use Rattle.compact.specs.Table.{CompactionOutcome, compactedReply}
 use Rattle.reason.specs.Table.{ReasonOutcome, reasonedReply}
 use Rattle.library_reply.specs.Fits.{Fits}
 use Rattle.library_reply.proofs.Fitting.{either, fits, bare, table-fits}
@@ -35,6 +36,10 @@ questionGives q = askedReply (q .answer)
 -- The reply of what a screenful of questions leaves.
 abbrev pub questionsGives : QuestionsOutcome → Reply
 questionsGives q = askedAllReply (q .answer)
+
+-- The reply of what a compaction leaves.
+abbrev pub compactionGives : CompactionOutcome → Reply
+compactionGives s = compactedReply (s .answer)
 
 -- The reply of what a reason leaves.
 abbrev pub reasonGives : ReasonOutcome → Reply

@@ -1,14 +1,16 @@
-// The answers of scan, question, screenful of questions, clash test, completion, reason and reason check, each as a reply.
+// The answers of scan, question, screenful of questions, clash test, completion, compaction, reason and reason check, each as a reply.
 ghost use mathlib.Core.Path.{_≡_};
 ghost use Rattle.scan.specs.Table.{scanReply};
 ghost use Rattle.question.specs.Table.{askedReply};
 ghost use Rattle.questions.specs.Table.{askedAllReply};
 ghost use Rattle.clash.specs.Table.{clashedReply};
 ghost use Rattle.completion.specs.Table.{completedReply};
+ghost use Rattle.compact.specs.Table.{compactedReply};
 ghost use Rattle.reason.specs.Table.{reasonedReply};
 ghost use Rattle.reason_check.specs.Table.{verdictReply};
 ghost use Rattle.library_reply.specs.Fits.{Fits};
 use clash::Clashed;
+use compact::CompactedList;
 use completion::Completed;
 use net::Reply;
 use net::refusal_given;
@@ -73,6 +75,16 @@ pub fn completed_given(completed: Completed) -> Reply
         Completed::Done(size) => reply_of(0, size as u32, 0),
         Completed::Short(needed) => reply_of(8, needed as u32, 0),
         Completed::Refused(refusal) => refusal_given(refusal),
+    }
+}
+
+// The reply of a compaction.
+pub fn compacted_given(compacted: CompactedList) -> Reply
+    ensures { λ r. ⌜ r ≡ compactedReply compacted ⌝ }
+{
+    match compacted {
+        CompactedList::Done(size) => reply_of(0, size, 0),
+        CompactedList::Refused(refusal) => refusal_given(refusal),
     }
 }
 

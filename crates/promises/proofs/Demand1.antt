@@ -10,6 +10,7 @@ use Rattle.theory.specs.Words.{signAt}
 use Rattle.theory.specs.Completion.{fullMarks, complete}
 use Rattle.theory.specs.Checks.{passes}
 use Rattle.theory.specs.Origins.{chosen}
+use Rattle.theory.specs.Compaction.{compacted}
 use Rattle.net.specs.Table.{checkNet}
 use Rattle.check_word.specs.Table.{wordTable, checkWord}
 use Rattle.check_word.specs.declared.WordChecked.the-variants.{Legal}
@@ -19,6 +20,7 @@ use Rattle.clash.specs.Table.{firstBoth, firstClash, clashNodes, clashSearch, n
 use Rattle.clash.specs.declared.Clashed.{Clashed}
 use Rattle.clash.specs.declared.Clashed.the-variants as clashed
 use Rattle.completion.specs.Table.{completionTable, completionDone, completedBy}
+use Rattle.compact.specs.Table.{compactionTable, compactionDone, compactedBy}
 use Rattle.reason.specs.Table.{reasonTable, reasonDone, reasoned}
 use Rattle.reason_check.specs.Table.{checkTable, checkDone, verdict}
 use Rattle.reason_check.specs.declared.Verdict.the-variants.{Holds, Fails}
@@ -29,7 +31,7 @@ use Rattle.question.specs.Table.{questionTable, questionDone}
 use Rattle.questions.specs.Table.{questionsTable, questionsDone, questionedAll}
 use Rattle.netfile.specs.Table.{readFrom, fileTable, fileDone}
 use Rattle.netfile.proofs.Called.{file-called}
-use Rattle.promises.specs.Numbers.{wordNumber, checkedNumber, scanNumber, questionNumber, clashNumber, completionNumber, reasonNumber, verdictNumber, questionsNumber, fileNumber}
+use Rattle.promises.specs.Numbers.{wordNumber, checkedNumber, scanNumber, questionNumber, clashNumber, completionNumber, reasonNumber, verdictNumber, questionsNumber, compactionNumber, fileNumber}
 use Rattle.promises.specs.Engines.{ours}
 use Rattle.promises.specs.Demand1.{Demand1}
 use Rattle.promises.proofs.Deciding.{obeys}
@@ -104,6 +106,12 @@ module _ (o k : ℕ) (ws : List ℕ) (set : ℕ) where
       obeys questionsNumber _ _ (record { numbered = (refl, (refl, (refl, (refl, (refl, (refl, tt)))))); once = refl; nonzero = refl; zero = λ h. refl }) _
       refl
 
+-- The compaction: numbers 1 to 3 and 5, or 0.
+pub compaction-obeys : (o k : ℕ) (ws m : List ℕ) → Obeys compactionNumber (compactionTable o k ws m) (compactionDone (compacted o k ws) ws m (o + k)) (compactedBy o k ws m)
+compaction-obeys o k ws m =
+    obeys compactionNumber _ _ (record { numbered = (refl, (refl, (refl, (refl, tt)))); once = refl; nonzero = refl; zero = λ h. refl }) _
+    refl
+
 -- The file reader: 9, or 0.
 pub file-obeys : (s : List ℕ) → Obeys fileNumber (fileTable s) (fileDone s) (readFrom s)
 file-obeys s =
@@ -122,4 +130,5 @@ demand-1 = record {
   reason = reason-obeys;
   reasonCheck = check-obeys;
   questions = questions-obeys;
+  compaction = compaction-obeys;
 }

@@ -70,11 +70,11 @@ module _ (o k : ℕ) where
 
   -- Plain words to their own completed list.
   module _ (z : ℕ) (zero : HasZero z) where
-    plain-to : (ws : List ℕ) → Net o k ws → CompletesTo ours o k ws z (complete o k ws)
+    pub plain-to : (ws : List ℕ) → Net o k ws → CompletesTo ours o k ws z (complete o k ws)
     plain-to ws n =
         subst (λ (l : List ℕ). CompletesTo ours o k ws z (complete o k l)) (plain-chosen o k ws z n zero) (completes-to ws z (plain-read o k ws z n zero))
 
-    plain-only : (ws out : List ℕ) → Net o k ws → CompletesTo ours o k ws z out → complete o k ws ≡ out
+    pub plain-only : (ws out : List ℕ) → Net o k ws → CompletesTo ours o k ws z out → complete o k ws ≡ out
     plain-only ws out n = completes-once ours o k ws z (complete o k ws) out (plain-to ws n)
 
 module _ (o k : ℕ) where
@@ -128,7 +128,7 @@ module _ (o k : ℕ) where
 
   -- Questions about plain words.
   module _ (z : ℕ) (zero : HasZero z) (x y : ℕ) (ws vs : List ℕ) (n : Net o k ws) (p : Net o k vs) where
-    plain-word : (m : List ℕ) → (x < o + k → Kind o k y → SameAnswer o k ws vs x y) → wordOf (questioned o k ws z x y m .answer) ≡ wordOf (questioned o k vs z x y m .answer)
+    pub plain-word : (m : List ℕ) → (x < o + k → Kind o k y → SameAnswer o k ws vs x y) → wordOf (questioned o k ws z x y m .answer) ≡ wordOf (questioned o k vs z x y m .answer)
     plain-word m f =
         same-word o k x y m ws z vs z (plain-read o k ws z n zero) (plain-read o k vs z p zero)
         (rw (plain-chosen o k ws z n zero, plain-chosen o k vs z p zero) f)

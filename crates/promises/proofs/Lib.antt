@@ -13,10 +13,12 @@ pub mod Reasoning
 pub mod PlainAsked
 pub mod PlainQuestions
 pub mod AskingAll
+pub mod PlainLists
 pub mod Reordered
 pub mod NetAnswers
 pub mod Demand3
 pub mod FromKind
+pub mod Compacting
 pub mod Origins
 pub mod Uniqueness
 pub mod Readings

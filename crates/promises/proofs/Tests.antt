@@ -26,12 +26,12 @@ use Rattle.theory.proofs.machine.Budgets.{ends-within, last-round, count-unique
 use Rattle.theory.proofs.reason.Distances.{distances-small}
 use Rattle.theory.proofs.reason.Reason.{reason-exactly}
 use Rattle.theory.proofs.Inside.{at-member}
-use Rattle.net_word.specs.Legal.{legalFrom}
-use Rattle.net_word.proofs.Legality.{legal-from-means}
-use Rattle.net.specs.Passing.{passing, FirstIllegal}
+use Rattle.net_word.specs.Legal.{legal, legalFrom}
+use Rattle.net_word.proofs.Legality.{legal-means, legal-from-means}
+use Rattle.net.specs.Passing.{passing, FirstIllegal, FirstIllegalPlain}
 use Rattle.net.proofs.Passing.{passing-passes, passing-fails, passing-is}
-use Rattle.net.proofs.NetCheck.{nodes-exactly}
-use Rattle.net.specs.Table.{checkNet, badPair, badStatement}
+use Rattle.net.proofs.NetCheck.{nodes-exactly, plain-checked}
+use Rattle.net.specs.Table.{checkNet, checkPlain, badPair, badStatement}
 use Rattle.net.specs.Good.{GoodPair, GoodStatement}
 use Rattle.net.proofs.Good.{good-pair, good-statement}
 use Rattle.clash.specs.Table.{clashSearch, nowhere}
@@ -87,6 +87,34 @@ module _ (o k : ℕ) (ws : List ℕ) where
             le-ltb setLimit set (r .allowed),
             le-ltb first (length ws) (omega (arith, all)),
           )
+
+  -- The same of a plain list: the index that clause 3 gives, and where none of the three clauses applies.
+  abbrev pub firstPlain : ℕ
+  firstPlain = passing (legal o (o + k)) ws
+
+  plain-stops : firstPlain < length ws → FirstIllegalPlain o k ws firstPlain
+  plain-stops l = record {
+    below = l;
+    fails = λ w. contradiction (sym (passing-fails (legal o (o + k)) ws l) ∙ legal-means o k _ .1 w);
+    before = λ j h. legal-means o k _ .0 (passing-passes (legal o (o + k)) ws j h);
+  }
+
+  pub clause-3-plain : Decides (ltb firstPlain (length ws)) (FirstIllegalPlain o k ws firstPlain)
+  clause-3-plain = decides-same _ (decides-below firstPlain (length ws)) plain-stops (λ f. f .below)
+
+  pub past-plain : ((ltb nodeLimit (o + k) ≡ false) × (ltb wordLimit (length ws) ≡ false) × (ltb firstPlain (length ws) ≡ false)) ↔ Net o k ws
+  unfolding checkPlain
+  past-plain = (there, back)
+    where
+      there : (ltb nodeLimit (o + k) ≡ false) × (ltb wordLimit (length ws) ≡ false) × (ltb firstPlain (length ws) ≡ false) → Net o k ws
+      there h = plain-checked o k ws {n = o + k} (rw (h .0, h .1, h .2)) .1
+
+      back : Net o k ws → (ltb nodeLimit (o + k) ≡ false) × (ltb wordLimit (length ws) ≡ false) × (ltb firstPlain (length ws) ≡ false)
+      back n =
+          let all : firstPlain ≡ length ws =
+          passing-is (legal o (o + k)) ws (length ws) (le-refl (length ws)) (λ l. absurd (omega arith))
+          (λ j l. legal-means o k (getD ws j 0) .1 (n .legal (getD ws j 0) (at-member ws j l))) in
+          (le-ltb nodeLimit (o + k) (n .few), le-ltb wordLimit (length ws) (n .short), le-ltb firstPlain (length ws) (omega (arith, all)))
 
   -- Clause 4 of a scan: x is no node.
   pub node-exactly : (x : ℕ) → (leb (o + k) x ≡ false) ↔ (x < o + k)

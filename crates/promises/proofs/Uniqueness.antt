@@ -18,6 +18,8 @@ use Rattle.question.specs.declared.Asked.{Asked}
 use Rattle.clash.specs.declared.Clashed.{Clashed}
 use Rattle.completion.specs.Table.{CompletionOutcome, completionOutcome, completedBy}
 use Rattle.completion.specs.declared.Completed.{Completed}
+use Rattle.compact.specs.Table.{CompactionOutcome, compactionOutcome, compactedBy}
+use Rattle.compact.specs.declared.CompactedList.{CompactedList}
 use Rattle.reason.specs.Table.{ReasonOutcome, reasonOutcome, reasoned}
 use Rattle.reason.specs.declared.Reasoned.{Reasoned}
 use Rattle.reason_check.specs.Table.{verdict}
@@ -91,6 +93,13 @@ word-unique o k w r q e f = both-are r q e f
 -- The check of a net, which is lent nothing to write to either.
 pub net-unique : (o k : ℕ) (ws : List ℕ) (set : ℕ) (r q : Checked) → r ≡ checkNet o k ws set → q ≡ checkNet o k ws set → r ≡ q
 net-unique o k ws set r q e f = both-are r q e f
+
+-- The compaction: m and l the lists, c and d the marks left.
+pub compaction-unique : (o k : ℕ) (list marks : List ℕ) (r q : CompactedList) (m l c d : List ℕ)
+    → compactionOutcome r m c ≡ compactedBy o k list marks → compactionOutcome q l d ≡ compactedBy o k list marks → (r ≡ q) × (m ≡ l) × (c ≡ d)
+compaction-unique o k list marks r q m l c d e f =
+    let p = both-are (compactionOutcome r m c) (compactionOutcome q l d) e f in
+    (ap (λ (s : CompactionOutcome). s .answer) p, ap (λ (s : CompactionOutcome). s .list) p, ap (λ (s : CompactionOutcome). s .marks) p)
 
 -- The reader of a file: the contents, and the bytes of the four bodies.
 pub contents-unique : (file : List ℕ) (r q : Contents) → r ≡ contentsOf file → q ≡ contentsOf file → r ≡ q

@@ -10,11 +10,13 @@ use Rattle.question.specs.Table.{questionTable, questionDone}
 use Rattle.questions.specs.Table.{questionsTable, questionsDone}
 use Rattle.theory.specs.Completion.{complete}
 use Rattle.theory.specs.Origins.{chosen}
+use Rattle.theory.specs.Compaction.{compacted}
 use Rattle.clash.specs.Table.{clashSearch, clashTable, clashDone}
 use Rattle.completion.specs.Table.{completionTable, completionDone}
+use Rattle.compact.specs.Table.{compactionTable, compactionDone}
 use Rattle.reason.specs.Table.{reasonTable, reasonDone}
 use Rattle.reason_check.specs.Table.{checkTable, checkDone}
-use Rattle.promises.specs.Numbers.{wordNumber, checkedNumber, scanNumber, questionNumber, clashNumber, completionNumber, reasonNumber, verdictNumber, questionsNumber}
+use Rattle.promises.specs.Numbers.{wordNumber, checkedNumber, scanNumber, questionNumber, clashNumber, completionNumber, reasonNumber, verdictNumber, questionsNumber, compactionNumber}
 use Rattle.promises.specs.Engines.{Engine}
 
 pub record Demand1 (e : Engine) : Type 0 where
@@ -34,3 +36,4 @@ pub record Demand1 (e : Engine) : Type 0 where
       → Obeys verdictNumber (checkTable o k ws set x y sign) (checkDone o k (chosen set ws) x y sign l) (e .reasonCheck o k ws set x y sign l)
   pub questions : (o k : ℕ) (ws : List ℕ) (set : ℕ) (ps bs m : List ℕ)
       → Obeys questionsNumber (questionsTable o k ws set ps bs m) (questionsDone o (chosen set ws) ps bs m (o + k)) (e .questions o k ws set ps bs m)
+  pub compaction : (o k : ℕ) (ws m : List ℕ) → Obeys compactionNumber (compactionTable o k ws m) (compactionDone (compacted o k ws) ws m (o + k)) (e .compaction o k ws m)

@@ -19,11 +19,13 @@ use Rattle.question.specs.Table.{QuestionOutcome, questioned}
 use Rattle.questions.specs.Table.{QuestionsOutcome, questionedAll}
 use Rattle.clash.specs.Table.{ClashOutcome, clashedBy}
 use Rattle.completion.specs.Table.{CompletionOutcome, completedBy}
+use Rattle.compact.specs.Table.{CompactionOutcome, compactedBy}
 use Rattle.reason.specs.Table.{ReasonOutcome, reasoned}
 use Rattle.reason_check.specs.Table.{verdict}
 use Rattle.reason_check.specs.declared.Verdict.{Verdict}
 
 -- The operations, the test of a word first, each over objects, kinds, words, a set of origins, what is asked, and the lent buffers as they are at entry.
+-- The compaction reads a plain list, which is lent to be written, and no set.
 pub record Engine : Type 0 where
   pub wordCheck : ℕ → ℕ → ℕ → WordChecked
   pub netCheck : ℕ → ℕ → List ℕ → ℕ → Checked
@@ -34,6 +36,7 @@ pub record Engine : Type 0 where
   pub reason : ℕ → ℕ → List ℕ → ℕ → ℕ → ℕ → ℕ → List ℕ → List ℕ → ReasonOutcome
   pub reasonCheck : ℕ → ℕ → List ℕ → ℕ → ℕ → ℕ → ℕ → List ℕ → Verdict
   pub questions : ℕ → ℕ → List ℕ → ℕ → List ℕ → List ℕ → List ℕ → QuestionsOutcome
+  pub compaction : ℕ → ℕ → List ℕ → List ℕ → CompactionOutcome
 
 -- A net whose words have origins, and a set of origins to read it with.
 pub record Read (o k : ℕ) (ws : List ℕ) (set : ℕ) : Type 0 where
@@ -57,6 +60,7 @@ ours = record {
   reason = reasoned;
   reasonCheck = verdict;
   questions = questionedAll;
+  compaction = compactedBy;
 }
 
 -- What a scan leaves, done or spent, with the bytes `past` behind its marks.
@@ -85,6 +89,7 @@ withScan f = record {
   reason = ours .reason;
   reasonCheck = ours .reasonCheck;
   questions = ours .questions;
+  compaction = ours .compaction;
 }
 
 abbrev pub withQuestion : (ℕ → ℕ → List ℕ → ℕ → ℕ → ℕ → List ℕ → QuestionOutcome) → Engine
@@ -98,6 +103,7 @@ withQuestion f = record {
   reason = ours .reason;
   reasonCheck = ours .reasonCheck;
   questions = ours .questions;
+  compaction = ours .compaction;
 }
 
 abbrev pub withCompletion : (ℕ → ℕ → List ℕ → ℕ → List ℕ → List ℕ → CompletionOutcome) → Engine
@@ -111,4 +117,5 @@ withCompletion f = record {
   reason = ours .reason;
   reasonCheck = ours .reasonCheck;
   questions = ours .questions;
+  compaction = ours .compaction;
 }

@@ -9,6 +9,7 @@ pub mod Reasoning
 pub mod AskingAll
 pub mod Demand3
 pub mod FromKind
+pub mod Compacting
 pub mod Origins
 pub mod Readings
 pub mod AskM

@@ -9,6 +9,7 @@ use Rattle.question.specs.Table.{QuestionOutcome, askedReply}
 use Rattle.questions.specs.Table.{QuestionsOutcome, askedAllReply}
 use Rattle.clash.specs.Table.{ClashOutcome, clashedReply}
 use Rattle.completion.specs.Table.{CompletionOutcome, completedReply}
+use Rattle.compact.specs.Table.{CompactionOutcome, compactedReply}
 use Rattle.reason.specs.Table.{ReasonOutcome, reasonedReply}
 use Rattle.reason_check.specs.Table.{verdictReply}
 use Rattle.reason_check.specs.declared.Verdict.{Verdict}
@@ -41,6 +42,9 @@ verdictNumber r = verdictReply r .number
 
 abbrev pub questionsNumber : QuestionsOutcome → ℕ
 questionsNumber r = askedAllReply (r .answer) .number
+
+abbrev pub compactionNumber : CompactionOutcome → ℕ
+compactionNumber r = compactedReply (r .answer) .number
 
 abbrev pub fileNumber : FileOutcome → ℕ
 fileNumber r = contentsReply (r .contents) .number

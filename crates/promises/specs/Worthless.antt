@@ -22,6 +22,8 @@ use Rattle.questions.specs.declared.AskedAll.the-variants as askedAll
 use Rattle.clash.specs.declared.Clashed.the-variants as clashed
 use Rattle.completion.specs.Table.{CompletionOutcome, completionOutcome, completionClauses, completionDone}
 use Rattle.completion.specs.declared.Completed.the-variants as completed
+use Rattle.compact.specs.Table.{compactionOutcome}
+use Rattle.compact.specs.declared.CompactedList.the-variants as compactedList
 use Rattle.reason.specs.Table.{reasonOutcome}
 use Rattle.reason.specs.declared.Reasoned.the-variants as reasonedAs
 use Rattle.reason_check.specs.declared.Verdict.the-variants as verdictAs
@@ -41,6 +43,7 @@ refuser r = record {
   reason = λ o k ws set x y sign d l. reasonOutcome (reasonedAs.Refused r) d l;
   reasonCheck = λ o k ws set x y sign l. verdictAs.Refused r;
   questions = λ o k ws set ps bs m. questionsOutcome (askedAll.Refused r) bs m;
+  compaction = λ o k ws m. compactionOutcome (compactedList.Refused r) ws m;
 }
 
 -- An answer turned into none.
@@ -104,4 +107,5 @@ hasty = record {
   reason = ours .reason;
   reasonCheck = ours .reasonCheck;
   questions = ours .questions;
+  compaction = ours .compaction;
 }

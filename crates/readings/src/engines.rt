@@ -2,11 +2,13 @@
 ghost use Prim.Native.Nat.{_≤_};
 use crate::other;
 use crate::proved;
+use readings_cases::buffers::lend_links;
 use readings_cases::buffers::lend_list;
 use readings_cases::buffers::lend_pairs;
 use readings_cases::buffers::lend_scratch;
 use readings_cases::buffers::lend_text;
 use readings_cases::buffers::take_answers;
+use readings_cases::buffers::take_links;
 use readings_cases::buffers::take_list;
 use readings_cases::buffers::take_scratch;
 use readings_cases::buffers::take_text;
@@ -171,6 +173,39 @@ fn with_list(
     reply
 }
 
+// The compaction, with the first places of list and marks.
+fn on_links(
+    engine: Engine,
+    n: Numbers,
+    first: usize,
+    second: usize,
+    list: &mut [u32],
+    marks: &mut [u8],
+) -> Reply {
+    let a = least(first, list.len());
+    let b = least(second, marks.len());
+    match engine {
+        Engine::Proved => proved::on_links(n, &mut list[..a], &mut marks[..b]),
+        Engine::Second => other::on_links(n, &mut list[..a], &mut marks[..b]),
+    }
+}
+
+// The same, with the two buffers.
+fn with_links(
+    engine: Engine,
+    n: Numbers,
+    first: usize,
+    second: usize,
+    buffers: &mut [u32],
+) -> Reply {
+    let mut list = [0u32; 16384];
+    let mut marks = [0u8; 2048];
+    lend_links(first, second, buffers, &mut list, &mut marks);
+    let reply = on_links(engine, n, first, second, &mut list, &mut marks);
+    take_links(first, second, &list, &marks, buffers);
+    reply
+}
+
 // The reason, with the first places of scratch and list.
 fn on_scratch(
     engine: Engine,
@@ -270,6 +305,7 @@ pub fn run(
         Operation::CheckWord => on_word(engine, n),
         Operation::Questions => with_pairs(engine, n, words, first, second, third, buffers),
         Operation::Completion => with_list(engine, n, words, first, second, buffers),
+        Operation::Compact => with_links(engine, n, first, second, buffers),
         Operation::Reason => with_scratch(engine, n, words, first, second, buffers),
         Operation::ReasonCheck => with_reason(engine, n, words, first, buffers),
         Operation::File => with_file(engine, first, buffers),

@@ -40,6 +40,11 @@ pub fn on_list(n: Numbers, words: &[u32], marks: &mut [u8], list: &mut [u32]) ->
     second::completion(n.o, n.k, words, n.set, marks, list)
 }
 
+// The compaction.
+pub fn on_links(n: Numbers, list: &mut [u32], marks: &mut [u8]) -> Reply {
+    second::compact(n.o, n.k, list, marks)
+}
+
 // The reason.
 pub fn on_scratch(n: Numbers, words: &[u32], scratch: &mut [u16], list: &mut [u16]) -> Reply {
     second::reason(n.o, n.k, words, n.set, n.x, n.y, n.sign, scratch, list)

@@ -11,6 +11,7 @@ use second::Reply;
 use strumelka::strumelka_check_net;
 use strumelka::strumelka_check_word;
 use strumelka::strumelka_clash;
+use strumelka::strumelka_compact;
 use strumelka::strumelka_completion;
 use strumelka::strumelka_question;
 use strumelka::strumelka_questions;
@@ -59,6 +60,11 @@ pub fn on_pairs(
 // The completion.
 pub fn on_list(n: Numbers, words: &[u32], marks: &mut [u8], list: &mut [u32]) -> Reply {
     reply_given(strumelka_completion(n.o, n.k, words, n.set, marks, list))
+}
+
+// The compaction.
+pub fn on_links(n: Numbers, list: &mut [u32], marks: &mut [u8]) -> Reply {
+    reply_given(strumelka_compact(n.o, n.k, list, marks))
 }
 
 // The reason.

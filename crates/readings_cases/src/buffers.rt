@@ -42,6 +42,7 @@ fn writes_second(operation: Operation) -> bool {
     match operation {
         Operation::Questions => true,
         Operation::Completion => true,
+        Operation::Compact => true,
         Operation::Reason => true,
         Operation::Ask => true,
         _ => false,
@@ -125,6 +126,24 @@ pub fn lend_list(first: usize, second: usize, buffers: &[u32], marks: &mut [u8],
 pub fn take_list(first: usize, second: usize, marks: &[u8], list: &[u32], buffers: &mut [u32]) {
     from_bytes(bytes_between(marks, 0, first), buffers, 0);
     copy(numbers_from(list, 0, second), buffers, SECOND_BUFFER);
+}
+
+// A list and marks, as they are in the two buffers.
+pub fn lend_links(
+    first: usize,
+    second: usize,
+    buffers: &[u32],
+    list: &mut [u32],
+    marks: &mut [u8],
+) {
+    copy(numbers_from(buffers, 0, first), list, 0);
+    to_bytes(numbers_from(buffers, SECOND_BUFFER, second), marks);
+}
+
+// Takes list and marks back into the two buffers.
+pub fn take_links(first: usize, second: usize, list: &[u32], marks: &[u8], buffers: &mut [u32]) {
+    copy(numbers_from(list, 0, first), buffers, 0);
+    from_bytes(bytes_between(marks, 0, second), buffers, SECOND_BUFFER);
 }
 
 // A scratch and a list, as they are in the two buffers.

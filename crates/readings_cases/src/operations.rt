@@ -23,6 +23,7 @@ pub enum Operation {
     Questions,
     Completion,
     Clash,
+    Compact,
     Reason,
     ReasonCheck,
     File,
@@ -85,6 +86,9 @@ pub fn operation_of(name: &[u8]) -> Operation {
     if same_bytes(name, b"clash") {
         return Operation::Clash;
     }
+    if same_bytes(name, b"compact") {
+        return Operation::Compact;
+    }
     file_operation_of(name)
 }
 
@@ -105,7 +109,7 @@ fn file_operation_of(name: &[u8]) -> Operation {
     Operation::Unknown
 }
 
-// The letter of an operation's field, 0 after its last: n a number, b a byte, w words, m marks, c completed words, s scratch,
+// The letter of an operation's field, 0 after its last: n a number, b a byte, w words, m marks, c words that are written, s scratch,
 // r a reason, f a file, p pairs, a their answers.
 fn letter_at(operation: Operation, at: usize) -> u8 {
     match operation {
@@ -116,6 +120,7 @@ fn letter_at(operation: Operation, at: usize) -> u8 {
         Operation::Questions => byte_at(b"nnwnpam", at),
         Operation::Completion => byte_at(b"nnwnmc", at),
         Operation::Clash => byte_at(b"nnwnm", at),
+        Operation::Compact => byte_at(b"nncm", at),
         Operation::Reason => byte_at(b"nnwnnnnsr", at),
         Operation::ReasonCheck => byte_at(b"nnwnnnnr", at),
         Operation::File => byte_at(b"f", at),

@@ -199,6 +199,22 @@ pub fn close(o: usize, n: usize, words: &[u32], set: u32, support: &mut [u8; 104
     close_cells(o, n, words, set, support);
 }
 
+// A table of the links alone, as their plain words say them.
+pub fn links_of(words: &[u32]) -> [u8; 1048576] {
+    let mut links = empty_table();
+    add_links(words, 15, &mut links);
+    links
+}
+
+// Whether the table has what a plain word says.
+pub fn is_supported(support: &[u8; 1048576], word: u32) -> bool {
+    let bits = byte_at(support, node(plain(word) / 2));
+    if word % 2 == 0 {
+        return bits % 2 == 1;
+    }
+    bits >= 2
+}
+
 // How many statements a cell holds.
 fn statements(bits: u8) -> usize
     ensures { λ r. ⌜ r ≤ 2 ⌝ }

@@ -152,11 +152,3 @@ pub fn read_words(file: &[u8], words: &mut [u32]) {
         i += 1;
     }
 }
-
-// The first `count` words, all of them where there are fewer.
-pub fn front<'a>(words: &'a [u32], count: usize) -> &'a [u32] {
-    if count <= words.len() {
-        return &words[..count];
-    }
-    words
-}

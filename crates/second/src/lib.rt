@@ -7,6 +7,7 @@ mod check; // check.rt: numbers 1 to 4 and 15 of the number table
 mod closure; // closure.rt: the table of supported statements
 mod rounds; // rounds.rt: the rounds of a scan
 mod pairs; // pairs.rt: a screenful of questions
+mod compaction; // compaction.rt: links that say nothing new
 mod search; // search.rt: the shortest reason
 mod path; // path.rt: whether a list is a path
 mod file; // file.rt: the net file
@@ -24,10 +25,12 @@ use closure::close;
 use closure::count_words;
 use closure::empty_table;
 use closure::write_words;
+use compaction::gather;
+use compaction::sort;
+use compaction::test_links;
 use file::WELL_FORMED;
 use file::count_of;
 use file::first_of;
-use file::front;
 use file::has_set;
 use file::number_at;
 use file::read_words;
@@ -41,6 +44,7 @@ use pairs::write_answers;
 use path::shows;
 use places::clear;
 use places::entry_at;
+use places::front;
 use places::narrow;
 use places::node;
 use places::wide;
@@ -174,6 +178,22 @@ pub fn clash(o: u32, k: u32, words: &[u32], set: u32, marks: &mut [u8]) -> Reply
         return refused(7);
     }
     given(0, narrow(at / 1024), narrow(at % 1024))
+}
+
+// The list of plain words without those that the others support, in its front and ascending; zeros after it.
+pub fn compact(o: u32, k: u32, list: &mut [u32], marks: &mut [u8]) -> Reply {
+    let checked = plain_check(o, k, list);
+    if checked.number != 0 {
+        return checked;
+    }
+    let n = node_count(o, k);
+    if marks.len() < n {
+        return refused(5);
+    }
+    clear(marks, n);
+    let count = sort(list);
+    test_links(node(o), n, count, list);
+    given(0, narrow(gather(count, list)), 0)
 }
 
 // The shortest reason for the statement (x, y, sign).

@@ -72,6 +72,11 @@ pub fn put_number(numbers: &mut [u16], at: usize, number: u16) {
     }
 }
 
+// The word at a place, or 0.
+pub fn word_at(words: &[u32], at: usize) -> u32 {
+    if at < words.len() { words[at] } else { 0 }
+}
+
 // Puts a word at a place, if it is wanted and there is such a place, and gives the place after it.
 pub fn put_word(words: &mut [u32], at: usize, word: u32, wanted: bool) -> usize {
     if !wanted {
@@ -82,4 +87,12 @@ pub fn put_word(words: &mut [u32], at: usize, word: u32, wanted: bool) -> usize 
         return at + 1;
     }
     at
+}
+
+// The first `count` words, all of them where there are fewer.
+pub fn front<'a>(words: &'a [u32], count: usize) -> &'a [u32] {
+    if count <= words.len() {
+        return &words[..count];
+    }
+    words
 }

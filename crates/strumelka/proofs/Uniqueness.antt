@@ -9,6 +9,7 @@ use Rattle.question.specs.Table.{questioned, askedReply}
 use Rattle.questions.specs.Table.{questionedAll, askedAllReply}
 use Rattle.clash.specs.Table.{clashedBy, clashedReply}
 use Rattle.completion.specs.Table.{completedBy, completedReply}
+use Rattle.compact.specs.Table.{compactedBy, compactedReply}
 use Rattle.reason.specs.Table.{reasoned, reasonedReply}
 use Rattle.reason_check.specs.Table.{verdict, verdictReply}
 
@@ -76,3 +77,10 @@ module _ (o k : ℕ) (ws : List ℕ) (set : ℕ) (r q : Reply) where
       → (q ≡ reasonedReply (reasoned o k ws set x y sign scratch list .answer)) × (l ≡ reasoned o k ws set x y sign scratch list .scratch) × (d ≡ reasoned o k ws set x y sign scratch list .list)
       → (r ≡ q) × (m ≡ l) × (c ≡ d)
   given-reason-unique x y sign scratch list m l c d = leaves-two r q m l c d
+
+-- `strumelka_compact`: m and l the lists, c and d the marks left.
+pub given-compact-unique : (o k : ℕ) (list marks : List ℕ) (r q : Reply) (m l c d : List ℕ)
+    → (r ≡ compactedReply (compactedBy o k list marks .answer)) × (m ≡ compactedBy o k list marks .list) × (c ≡ compactedBy o k list marks .marks)
+    → (q ≡ compactedReply (compactedBy o k list marks .answer)) × (l ≡ compactedBy o k list marks .list) × (d ≡ compactedBy o k list marks .marks)
+    → (r ≡ q) × (m ≡ l) × (c ≡ d)
+given-compact-unique o k list marks r q m l c d = leaves-two r q m l c d

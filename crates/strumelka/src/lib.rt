@@ -7,14 +7,17 @@ ghost use Rattle.question.specs.Table.{questioned, askedReply};
 ghost use Rattle.questions.specs.Table.{questionedAll, askedAllReply};
 ghost use Rattle.clash.specs.Table.{clashedBy, clashedReply};
 ghost use Rattle.completion.specs.Table.{completedBy, completedReply};
+ghost use Rattle.compact.specs.Table.{compactedBy, compactedReply};
 ghost use Rattle.reason.specs.Table.{reasoned, reasonedReply};
 ghost use Rattle.reason_check.specs.Table.{verdict, verdictReply};
 use check_word::check_word;
 use clash::find_clash;
+use compact::compact_list;
 use completion::complete_net;
 use library_answer::asked_all_given;
 use library_answer::asked_given;
 use library_answer::clashed_given;
+use library_answer::compacted_given;
 use library_answer::completed_given;
 use library_answer::reasoned_given;
 use library_answer::scanned_given;
@@ -127,6 +130,16 @@ pub extern "C" fn strumelka_clash(
         × (now (marks .exit) ≡ clashedBy o k (now (words .entry)) set (now (marks .entry)) .marks) ⌝ }
 {
     clashed_given(find_clash(o, k, words, set, marks))
+}
+
+// The compaction of a list of plain words, where it stands.
+#[no_mangle]
+pub extern "C" fn strumelka_compact(o: u32, k: u32, list: &mut [u32], marks: &mut [u8]) -> Reply
+    ensures { λ r. ⌜ (r ≡ compactedReply (compactedBy o k (now (list .entry)) (now (marks .entry)) .answer))
+        × (now (list .exit) ≡ compactedBy o k (now (list .entry)) (now (marks .entry)) .list)
+        × (now (marks .exit) ≡ compactedBy o k (now (list .entry)) (now (marks .entry)) .marks) ⌝ }
+{
+    compacted_given(compact_list(o, k, list, marks))
 }
 
 // The shortest reason for x → y (`sign` 0) or x ↛ y (`sign` 1), with room for distances and for the list.

@@ -3,6 +3,7 @@ pub mod Legal
 pub mod support
 pub mod machine
 pub mod completion
+pub mod compaction
 pub mod reason
 pub mod origins
 pub mod Readings

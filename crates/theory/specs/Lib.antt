@@ -10,6 +10,8 @@ pub mod Forward
 pub mod Downscan
 pub mod Origins
 pub mod Completion
+pub mod Sorting
+pub mod Compaction
 pub mod Reasons
 pub mod Searches
 pub mod Checks

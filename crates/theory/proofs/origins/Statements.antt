@@ -90,7 +90,7 @@ chosen-statements set ws x y s = (
   },
 )
 
-among-links : (ws vs : List ℕ) → AllIn ws vs → Sub (Links ws) (Links vs)
+pub among-links : (ws vs : List ℕ) → AllIn ws vs → Sub (Links ws) (Links vs)
 among-links ws vs h x y s l = record { it = l .it; listed = h (l .it) (l .listed); tail = l .tail; head = l .head; sign = l .sign }
 
 -- More origins take nothing away: what is supported stays so.

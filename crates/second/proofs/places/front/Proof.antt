@@ -2,8 +2,8 @@
 use lib.ListN.{length-take}
 use native.Mathlib.Omega.{arith}
 use borrow.Author.Needs.{needs}
-use Rattle.second.proofs.file.front.Statement.{statement}
-use Rattle.second.proofs.file.front.Tie as tie
+use Rattle.second.proofs.places.front.Statement.{statement}
+use Rattle.second.proofs.places.front.Tie as tie
 
 slice-aggregate-result : tie.Need-slice-aggregate-result
 slice-aggregate-result c = simp length-take (omega arith)

@@ -1,0 +1,4 @@
+pub mod Zeros
+pub mod Outcomes
+pub mod Replies
+pub mod Readings

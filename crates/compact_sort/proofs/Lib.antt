@@ -1,0 +1,4 @@
+pub mod Swapping
+pub mod Sifting
+pub mod Draining
+pub mod Removing

@@ -1,0 +1,4 @@
+pub mod Shifting
+pub mod Testing
+pub mod Trying
+pub mod Descending
