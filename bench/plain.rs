@@ -324,14 +324,11 @@ impl<'a> Net<'a> {
             | command::<1, true, U, F>(self.words, self.set, marks)
     }
 
-    /// Whether the net supports what a word says: the scan from its tail, which stops when its head is marked so.
+    /// Whether the net supports what a word says: the whole scan from its tail, read at its head.
     fn supports(&self, word: u32, marks: &mut [u8]) -> bool {
-        let (x, y) = (tail_of(word), head_of(word));
         let wanted = if word % 2 == 0 { U } else { F };
-        marks.fill(0);
-        marks[x] = T | U;
-        while marks[y] & wanted == 0 && self.round(marks) {}
-        marks[y] & wanted != 0
+        self.scan_whole(tail_of(word), marks);
+        marks[head_of(word)] & wanted != 0
     }
 
     /// The scan with a budget that no net spends.

@@ -17,8 +17,8 @@
  *   - No pointer is null, and each is aligned for its type. This holds for an empty buffer too: pass the address of any
  *     object of the element's type with length 0. Nothing is read or written through it.
  *
- * What no line names keeps its contents: marks from o + k on, the scratch from 2 * (o + k) on, and a list after what is
- * written to its front are never touched.
+ * What no line names keeps its contents: marks from o + k on, the scratch from 2 * (o + k) on, and, but for a compaction,
+ * a list after what is written to its front are never touched.
  *
  * The library keeps nothing between calls, allocates nothing and calls nothing but memory functions of the C library:
  * calls from several threads may run at once where none writes to a buffer that another one reads or writes. The code is
@@ -119,14 +119,15 @@ struct strumelka_answer {
  *   3  an illegal word; first = 0; second = STRUMELKA_CAUSE_ORIGIN, _TAIL or _HEAD */
 struct strumelka_answer strumelka_check_word(uint32_t o, uint32_t k, uint32_t word);
 
-/* The check of a net, with which every function below begins.
+/* The check of a net, with which every function below that takes a set begins.
  *   0   a legal net; first = its nodes, o + k
  *   1   o + k is over STRUMELKA_NODE_LIMIT, added without wrapping
  *   2   words_len is over STRUMELKA_WORD_LIMIT
  *   15  set is over STRUMELKA_ALL_ORIGINS
  *   3   some word, of whatever origin, is illegal; first = the index of the first such word among all words,
  *       second = its cause, STRUMELKA_CAUSE_ORIGIN, _TAIL or _HEAD
- * In every function below 1, 2, 15 and 3 mean the same, with the same values, and all buffers are as they were. */
+ * In every function below 1, 2, 15 and 3 mean the same, with the same values, and all buffers are as they were; a
+ * compaction, which takes plain words and no set, says what is different there. */
 struct strumelka_answer strumelka_check_net(
     uint32_t o, uint32_t k, const uint32_t *words, size_t words_len, uint32_t set);
 

@@ -24,6 +24,18 @@ static uint32_t words[] = {
 };
 static uint16_t path[] = {3, 1, 0, 24, 25, 26};
 
+/* Two about one node, a bad one, and one about another node. */
+static uint16_t pairs[] = {0, 24, 0, 26, 24, 0, 1023, 1023};
+static uint8_t answers[COUNT(pairs) / 2];
+
+/* A list to be written over, filled anew for each call: the words above, one of them twice, and one that follows from others. */
+static const uint32_t filled[] = {
+    STRUMELKA_WORD(1023, 1023, STRUMELKA_IS_NOT), STRUMELKA_WORD(25, 26, STRUMELKA_IS_NOT),
+    STRUMELKA_WORD(24, 25, STRUMELKA_IS),         STRUMELKA_WORD(24, 25, STRUMELKA_IS),
+    STRUMELKA_WORD(0, 25, STRUMELKA_IS),          STRUMELKA_WORD(0, 24, STRUMELKA_IS),
+};
+static uint32_t links[COUNT(filled)];
+
 static uint8_t marks[OBJECTS + KINDS];
 static uint32_t list[4096];
 static uint16_t scratch[2 * (OBJECTS + KINDS)];
@@ -48,6 +60,9 @@ static const struct {
     {"scratch", {0, scratch, COUNT(scratch)}},
     {"reason", {0, reason, COUNT(reason)}},
     {"path", {0, path, COUNT(path)}},
+    {"pairs", {0, pairs, COUNT(pairs)}},
+    {"answers", {0, answers, COUNT(answers)}},
+    {"links", {0, links, COUNT(links)}},
 };
 
 /* The call, and what it answers. */
@@ -91,6 +106,7 @@ static size_t written_on(unsigned char color)
 {
     paint = color;
     memset(stack, paint, sizeof stack);
+    memcpy(links, filled, sizeof links);
     getcontext(&inside);
     inside.uc_stack.ss_sp = stack;
     inside.uc_stack.ss_size = sizeof stack;

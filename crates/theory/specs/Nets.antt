@@ -35,7 +35,7 @@ pub record LegalWord (o k w : ℕ) : Type 0 where
 abbrev pub LegalWords : ℕ → ℕ → List ℕ → Type 0
 LegalWords o k ws = (w : ℕ) → List·Memᴰ w ws → LegalWord o k w
 
--- What no operation refuses by number 1, 2 or 3. Nets over one set of nodes are joined by joining their lists.
+-- A net of plain words: what no check of a plain list refuses. Nets over one set of nodes are joined by joining their lists.
 pub record Net (o k : ℕ) (ws : List ℕ) : Type 0 where
   pub few : o + k ≤ nodeLimit
   pub short : length ws ≤ wordLimit

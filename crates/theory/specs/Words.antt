@@ -14,7 +14,7 @@ signNumber isnt = 1
 abbrev pub word : ℕ → ℕ → Sign → ℕ
 word x y s = x * 2048 + y * 2 + signNumber s
 
--- A word's tail: it is not reduced, so a word too large has a tail that is no node.
+-- A plain word's tail: it is not reduced, so a plain word too large has a tail that is no node.
 abbrev pub tailOf : ℕ → ℕ
 tailOf w = w / 2048
 
