@@ -44,6 +44,7 @@ pub struct Engine {
     ) -> Answer,
     pub completion:
         fn(o: u32, k: u32, words: &[u32], set: u32, marks: &mut [u8], list: &mut [u32]) -> Answer,
+    pub clash: fn(o: u32, k: u32, words: &[u32], set: u32, marks: &mut [u8]) -> Answer,
     pub compact: fn(o: u32, k: u32, list: &mut [u32], marks: &mut [u8]) -> Answer,
     pub reason: fn(
         o: u32,
@@ -55,5 +56,15 @@ pub struct Engine {
         sign: u32,
         scratch: &mut [u16],
         list: &mut [u16],
+    ) -> Answer,
+    pub reason_check: fn(
+        o: u32,
+        k: u32,
+        words: &[u32],
+        set: u32,
+        x: u32,
+        y: u32,
+        sign: u32,
+        list: &[u16],
     ) -> Answer,
 }

@@ -37,15 +37,19 @@ enum Operation {
     Questions,
     SingleQuestions,
     Reason,
+    ReasonCheck,
     Completion,
+    Clash,
     Compact,
 }
 
-const OPERATIONS: [(Operation, &str); 5] = [
+const OPERATIONS: [(Operation, &str); 7] = [
     (Operation::CheckNet, "check of the net"),
     (Operation::Scan, "scan"),
     (Operation::Question, "question"),
     (Operation::Reason, "reason"),
+    (Operation::ReasonCheck, "reason check"),
+    (Operation::Clash, "clash test"),
     (Operation::Completion, "completion"),
 ];
 
@@ -70,6 +74,7 @@ struct Room {
     words_list: Vec<u32>,
     scratch: Vec<u16>,
     reason_list: Vec<u16>,
+    path: Vec<u16>,
 }
 
 /// The best time of each engine, and the answer that both gave.
@@ -296,7 +301,11 @@ fn measure(shape: &Shape, operation: Operation) -> Measured {
             "the engines differ on {}",
             shape.name
         );
-        assert!(answers[0].number == 0, "refused on {}", shape.name);
+        assert!(
+            is_done(operation, answers[0].number),
+            "refused on {}",
+            shape.name
+        );
         let spent = processor_seconds() - begun;
         if spent > TOO_LONG || (spent > SPENT && turn + 1 >= FEWEST_TURNS) {
             break;
@@ -308,6 +317,11 @@ fn measure(shape: &Shape, operation: Operation) -> Measured {
         plain: best[1],
         answer: answers[0],
     }
+}
+
+/// A clash test that finds none has done its work too.
+fn is_done(operation: Operation, number: u32) -> bool {
+    number == 0 || (number == 7 && matches!(operation, Operation::Clash))
 }
 
 /// The processor time that this process has taken.
@@ -344,7 +358,30 @@ fn room_for(shape: &Shape) -> Room {
         words_list: vec![0; 2 * nodes * shape.net.k as usize],
         scratch: vec![0; 2 * nodes],
         reason_list: vec![0; 2 * nodes + 3],
+        path: path_of(shape),
     }
+}
+
+/// The reason for the statement asked, to be checked.
+fn path_of(shape: &Shape) -> Vec<u16> {
+    let Net { o, k, words } = &shape.net;
+    let nodes = shape.net.nodes();
+    let (mut scratch, mut list) = (vec![0; 2 * nodes], vec![0; 2 * nodes + 3]);
+    let (x, y, sign) = (shape.x, shape.y, shape.sign);
+    let reason = plain::ENGINE.reason;
+    let given = reason(
+        *o,
+        *k,
+        words,
+        ALL_ORIGINS,
+        x,
+        y,
+        sign,
+        &mut scratch,
+        &mut list,
+    );
+    list.truncate(given.first as usize);
+    list
 }
 
 /// The words without their origins, into a list of as many places.
@@ -408,6 +445,10 @@ fn call(engine: &Engine, operation: Operation, shape: &Shape, room: &mut Room) -
             &mut room.scratch,
             &mut room.reason_list,
         ),
+        Operation::ReasonCheck => {
+            (engine.reason_check)(o, k, words, ALL_ORIGINS, x, y, sign, &room.path)
+        }
+        Operation::Clash => (engine.clash)(o, k, words, ALL_ORIGINS, &mut room.marks),
         Operation::Completion => (engine.completion)(
             o,
             k,

@@ -3,7 +3,10 @@
 //! over the words each, a link of an origin that is not chosen is left out where it is read, and nothing is allocated.
 
 use crate::engine::{Answer, Engine};
-use crate::nets::{head_of, is_chosen, origin_of, tail_of, ALL_ORIGINS, ORIGINS, WORD_LIMIT};
+use crate::nets::{
+    head_of, is_chosen, origin_of, plain as plain_of, tail_of, word, ALL_ORIGINS, ORIGINS,
+    WORD_LIMIT,
+};
 
 const NODE_LIMIT: usize = 1024;
 const NO_WAY: u16 = 65_535;
@@ -28,8 +31,10 @@ pub const ENGINE: Engine = Engine {
     question,
     questions,
     completion,
+    clash,
     compact,
     reason,
+    reason_check,
 };
 
 /// What an operation answers; a refusal leaves it early as an `Err`.
@@ -144,6 +149,22 @@ fn completion(
     })
 }
 
+fn clash(o: u32, k: u32, words: &[u32], set: u32, marks: &mut [u8]) -> Answer {
+    on_net(o, k, words, set, |net| {
+        let marks = net.places(1, marks)?;
+        let found = (0..net.nodes).find_map(|x| {
+            net.scan_whole(x, marks);
+            let mut kinds = net.objects..net.nodes;
+            Some((x, kinds.find(|&y| marks[y] & (U | F) == U | F)?))
+        });
+        marks.fill(0);
+        match found {
+            Some((x, y)) => Ok(Answer::new(0, x as u32, y as u32)),
+            None => refused(7),
+        }
+    })
+}
+
 fn compact(o: u32, k: u32, list: &mut [u32], marks: &mut [u8]) -> Answer {
     given(compact_plain(o, k, list, marks))
 }
@@ -213,6 +234,24 @@ fn reason(
         }
         net.write_reason(x, sign, distances, &mut list[..size]);
         Ok(Answer::new(0, size as u32, 0))
+    })
+}
+
+#[allow(clippy::too_many_arguments)]
+fn reason_check(
+    o: u32,
+    k: u32,
+    words: &[u32],
+    set: u32,
+    x: u32,
+    y: u32,
+    sign: u32,
+    list: &[u16],
+) -> Answer {
+    on_net(o, k, words, set, |net| {
+        let (x, y) = net.statement(x, y, sign)?;
+        let holds = net.is_path(x, y, sign, list);
+        Ok(Answer::new(0, holds as u32, 0))
     })
 }
 
@@ -388,6 +427,48 @@ impl<'a> Net<'a> {
                 each(head, self.nodes + tail);
             }
         }
+    }
+
+    /// Whether a list is a path from `x` to `y` of the sign asked, with nothing after it.
+    fn is_path(&self, x: usize, y: usize, sign: u32, list: &[u16]) -> bool {
+        let [first, second, path @ ..] = list else {
+            return false;
+        };
+        let (first, second) = (*first as usize, *second as usize);
+        first > 0
+            && first + second == path.len()
+            && (second > 0) == (sign == 1)
+            && path[0] as usize == x
+            && path[path.len() - 1] as usize == y
+            && path
+                .windows(2)
+                .enumerate()
+                .all(|(at, step)| self.is_step(first, at + 1, step[0] as usize, step[1] as usize))
+    }
+
+    /// Whether the step from the `reached`-th node of a path is a link, or a repeat of a kind that is not the crossing.
+    fn is_step(&self, first: usize, reached: usize, from: usize, to: usize) -> bool {
+        let says = |tail: usize, head: usize, sign: usize| {
+            let wanted = word(tail, head, sign);
+            move |word: u32| plain_of(word) == wanted
+        };
+        if reached == first {
+            let (there, back) = (says(from, to, 1), says(to, from, 1));
+            return self.has_link(|word| there(word) || back(word));
+        }
+        let link = if reached < first {
+            says(from, to, 0)
+        } else {
+            says(to, from, 0)
+        };
+        (from == to && self.is_kind(from)) || self.has_link(link)
+    }
+
+    /// Whether a chosen word passes a test.
+    fn has_link(&self, test: impl Fn(u32) -> bool) -> bool {
+        self.words
+            .iter()
+            .any(|&word| is_chosen(self.set, word) && test(word))
     }
 
     /// The fewest links from each state to the end of a path to `y`, level by level.

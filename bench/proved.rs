@@ -62,6 +62,15 @@ mod c {
             list: *mut u32,
             list_len: usize,
         ) -> Answer;
+        pub fn strumelka_clash(
+            o: u32,
+            k: u32,
+            words: *const u32,
+            words_len: usize,
+            set: u32,
+            marks: *mut u8,
+            marks_len: usize,
+        ) -> Answer;
         pub fn strumelka_compact(
             o: u32,
             k: u32,
@@ -84,6 +93,18 @@ mod c {
             list: *mut u16,
             list_len: usize,
         ) -> Answer;
+        pub fn strumelka_reason_check(
+            o: u32,
+            k: u32,
+            words: *const u32,
+            words_len: usize,
+            set: u32,
+            x: u32,
+            y: u32,
+            sign: u32,
+            list: *const u16,
+            list_len: usize,
+        ) -> Answer;
     }
 }
 
@@ -94,8 +115,10 @@ pub const ENGINE: Engine = Engine {
     question,
     questions,
     completion,
+    clash,
     compact,
     reason,
+    reason_check,
 };
 
 fn check_net(o: u32, k: u32, words: &[u32], set: u32) -> Answer {
@@ -191,6 +214,20 @@ fn completion(
     }
 }
 
+fn clash(o: u32, k: u32, words: &[u32], set: u32, marks: &mut [u8]) -> Answer {
+    unsafe {
+        c::strumelka_clash(
+            o,
+            k,
+            words.as_ptr(),
+            words.len(),
+            set,
+            marks.as_mut_ptr(),
+            marks.len(),
+        )
+    }
+}
+
 fn compact(o: u32, k: u32, list: &mut [u32], marks: &mut [u8]) -> Answer {
     unsafe {
         c::strumelka_compact(
@@ -229,6 +266,33 @@ fn reason(
             scratch.as_mut_ptr(),
             scratch.len(),
             list.as_mut_ptr(),
+            list.len(),
+        )
+    }
+}
+
+#[allow(clippy::too_many_arguments)]
+fn reason_check(
+    o: u32,
+    k: u32,
+    words: &[u32],
+    set: u32,
+    x: u32,
+    y: u32,
+    sign: u32,
+    list: &[u16],
+) -> Answer {
+    unsafe {
+        c::strumelka_reason_check(
+            o,
+            k,
+            words.as_ptr(),
+            words.len(),
+            set,
+            x,
+            y,
+            sign,
+            list.as_ptr(),
             list.len(),
         )
     }
