@@ -45,7 +45,7 @@ module _ (j n v : ℕ) (m : List ℕ) where
   left-free x f u k l = rw (getD-set-other m v u x 0 (λ (e : u ≡ v). omega arith)) (f u (omega arith) l)
 
 -- Where nothing was set the marks are as they were.
-set-none : {f : Bool} {m a : List ℕ} → Set f m a → f ≡ false → a ≡ m
+pub set-none : {f : Bool} {m a : List ℕ} → Set f m a → f ≡ false → a ≡ m
 set-none kept e = refl
 set-none (more l) e = contradiction (sym e)
 

@@ -6,6 +6,7 @@ ghost use Rattle.theory.specs.Marks.{commands};
 ghost use Rattle.theory.specs.Scans.{rounds};
 ghost use Rattle.theory.specs.Origins.{chosen, InsideFrom};
 ghost use Rattle.scan_start.specs.Starts.{Low};
+use scan_round::Due;
 use scan_round::round;
 
 // Whether the rounds ended within their budget, and how many were run.
@@ -23,10 +24,21 @@ pub fn run_rounds(n: usize, words: &[u32], set: u32, budget: u32, marks: &mut [u
     ensures { λ r. ⌜ rounds commands (chosen set (now (words .entry))) 0 budget (now (marks .entry)) ≡ record { done = r .done; count = r .count; marks = now (marks .exit) } ⌝ }
     ensures { λ r. ⌜ Low n (now (marks .exit)) ⌝ }
 {
+    let mut due = Due {
+        t: true,
+        u: true,
+        f: true,
+        isnt: true,
+    };
     let mut count = 0;
     while count < budget {
-        let changed = round(n, words, set, marks);
+        due = round(due, n, words, set, marks);
         count += 1;
+        let t = due.t;
+        let u = due.u;
+        let f = due.f;
+        let isnt = due.isnt;
+        let changed = t | u | f | isnt;
         if !changed {
             return Ran {
                 done: true,

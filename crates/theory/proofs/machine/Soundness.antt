@@ -85,7 +85,7 @@ module _ (n : ℕ) (ws : List ℕ) (e : Inside n ws) where
     command-keeps j v a = command-at c ws m n j v e r ∙ ap (λ (q : Bool). q || any (hits c m j v) ws) a
 
     -- A link at whose tested end the marker stands puts its marker.
-    fire : (x y : ℕ) (s : Sign) → signNumber s ≡ c .sign → Over (Links ws) s (c .«at_head») x y → At m (c .test) x → At (command c ws m) (c .put) y
+    pub fire : (x y : ℕ) (s : Sign) → signNumber s ≡ c .sign → Over (Links ws) s (c .«at_head») x y → At m (c .test) x → At (command c ws m) (c .put) y
     fire x y s q l t =
         let (w, h, g, p, z) = seen s (c .«at_head») x y l in
         let hit : hits c m (c .put) y w ≡ true = rw (z, p, t, eq-eqb (parity w) (c .sign) (g ∙ q), eq-eqb y y refl, eq-eqb (c .put) (c .put) refl) in
