@@ -46,6 +46,14 @@ pub struct Engine {
         fn(o: u32, k: u32, words: &[u32], set: u32, marks: &mut [u8], list: &mut [u32]) -> Answer,
     pub clash: fn(o: u32, k: u32, words: &[u32], set: u32, marks: &mut [u8]) -> Answer,
     pub compact: fn(o: u32, k: u32, list: &mut [u32], marks: &mut [u8]) -> Answer,
+    pub mend: fn(
+        o: u32,
+        k: u32,
+        words: &[u32],
+        kept: &mut [u32],
+        dropped: &mut [u32],
+        marks: &mut [u8],
+    ) -> Answer,
     pub reason: fn(
         o: u32,
         k: u32,

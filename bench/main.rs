@@ -41,6 +41,7 @@ enum Operation {
     Completion,
     Clash,
     Compact,
+    Mend,
 }
 
 const OPERATIONS: [(Operation, &str); 7] = [
@@ -69,6 +70,8 @@ struct Shape {
 #[derive(Clone, PartialEq)]
 struct Room {
     links: Vec<u32>,
+    kept: Vec<u32>,
+    dropped: Vec<u32>,
     answers: Vec<u8>,
     marks: Vec<u8>,
     words_list: Vec<u32>,
@@ -106,6 +109,8 @@ fn main() {
             repeated_shape(100, 800, 8_000),
         ],
     );
+    println!("\nMending a net, and a scan of the same net:\n");
+    print_mending(ratios, &mended_shape(100, 800, 8_000, 300));
     println!("\nHow a scan's time grows with words (random links on 1,024 nodes):\n");
     let sizes = [1_000, 4_000, 16_000, 64_000, 256_000, 1_024_000];
     print_growth(ratios, &sizes.map(|size| random_shape(24, 1000, size)));
@@ -141,6 +146,35 @@ fn repeated_shape(o: usize, k: usize, size: usize) -> Shape {
     }
     shape.name = format!("{}, repeated to {} words", shape.name, WORD_LIMIT);
     shape
+}
+
+/// Kinds in two halves, by even and odd numbers: "is" goes upward inside a half, "is not" from one half to the other. The last
+/// links, which somebody has added, say "is" across, and most of them clash.
+fn mended_shape(o: usize, k: usize, size: usize, added: usize) -> Shape {
+    let mut random = Random::new(SEED, added as u64);
+    let nodes = o + k;
+    let mut words = Vec::with_capacity(size);
+    while words.len() < size {
+        let (tail, head) = (random.below(nodes), o + random.below(k));
+        let across = (tail + head) % 2 == 1;
+        let is_added = words.len() >= size - added;
+        if tail < head && across == is_added {
+            words.push(word(tail, head, 0));
+        } else if across && !is_added && random.chance(30) {
+            words.push(word(tail, head, 1));
+        }
+    }
+    Shape {
+        name: format!("{} nodes, {} links, the last {} across", nodes, size, added),
+        x: tail_of(words[0]) as u32,
+        y: head_of(words[0]) as u32,
+        net: of_all_origins(Net {
+            o: o as u32,
+            k: k as u32,
+            words,
+        }),
+        sign: 0,
+    }
 }
 
 fn chain_shape(nodes: usize) -> Shape {
@@ -239,6 +273,29 @@ fn print_compaction(ratios: bool, shapes: &[Shape]) {
             best.proved / best.plain
         );
     }
+}
+
+fn print_mending(ratios: bool, shape: &Shape) {
+    println!(
+        "| net | dropped | {}proved / plain | proved: a link / one scan |",
+        if ratios { "" } else { "proved | plain | " }
+    );
+    println!("|---|---|{}---|---|", if ratios { "" } else { "---|---|" });
+    let best = measure(shape, Operation::Mend);
+    let scan = measure(shape, Operation::Scan);
+    let times = if ratios {
+        String::new()
+    } else {
+        format!("{} | {} | ", time(best.proved), time(best.plain))
+    };
+    println!(
+        "| {} | {} | {}{:.2} | {:.2} |",
+        shape.name,
+        best.answer.second,
+        times,
+        best.proved / best.plain,
+        best.proved / shape.net.words.len() as f64 / scan.proved
+    );
 }
 
 fn print_growth(ratios: bool, shapes: &[Shape]) {
@@ -351,8 +408,11 @@ fn opaque(engine: &Engine) -> &Engine {
 
 fn room_for(shape: &Shape) -> Room {
     let nodes = shape.net.nodes();
+    let words = shape.net.words.len();
     Room {
-        links: vec![0; shape.net.words.len()],
+        links: vec![0; words],
+        kept: vec![0; words],
+        dropped: vec![0; 3 * words],
         answers: vec![0; SCREENFUL],
         marks: vec![0; nodes],
         words_list: vec![0; 2 * nodes * shape.net.k as usize],
@@ -460,6 +520,17 @@ fn call(engine: &Engine, operation: Operation, shape: &Shape, room: &mut Room) -
         Operation::Compact => {
             write_plain(words, &mut room.links);
             (engine.compact)(o, k, &mut room.links, &mut room.marks)
+        }
+        Operation::Mend => {
+            write_plain(words, &mut room.links);
+            (engine.mend)(
+                o,
+                k,
+                &room.links,
+                &mut room.kept,
+                &mut room.dropped,
+                &mut room.marks,
+            )
         }
     }
 }

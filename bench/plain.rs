@@ -33,6 +33,7 @@ pub const ENGINE: Engine = Engine {
     completion,
     clash,
     compact,
+    mend,
     reason,
     reason_check,
 };
@@ -195,6 +196,56 @@ fn compact_plain(o: u32, k: u32, list: &mut [u32], marks: &mut [u8]) -> Outcome 
     list[size..].fill(0);
     marks.fill(0);
     Ok(Answer::new(0, size as u32, 0))
+}
+
+fn mend(
+    o: u32,
+    k: u32,
+    words: &[u32],
+    kept: &mut [u32],
+    dropped: &mut [u32],
+    marks: &mut [u8],
+) -> Answer {
+    given(mend_plain(o, k, words, kept, dropped, marks))
+}
+
+fn mend_plain(
+    o: u32,
+    k: u32,
+    words: &[u32],
+    kept: &mut [u32],
+    dropped: &mut [u32],
+    marks: &mut [u8],
+) -> Outcome {
+    let Net { objects, nodes, .. } = Net::checked(o, k, words, PLAIN, 1)?;
+    let Some(marks) = marks.get_mut(..nodes) else {
+        return refused(5);
+    };
+    let (mut keeps, mut drops) = (0, 0);
+    let enough = kept.len() >= words.len() && dropped.len() / 3 >= words.len();
+    for &word in words.iter().filter(|_| enough) {
+        // The word is tried behind those kept, on a place that gets back what it held where the word is dropped.
+        let held = std::mem::replace(&mut kept[keeps], word);
+        let net = Net {
+            objects,
+            nodes,
+            words: &kept[..keeps + 1],
+            set: PLAIN,
+        };
+        match net.clash_by(word, marks) {
+            None => keeps += 1,
+            Some((x, y)) => {
+                kept[keeps] = held;
+                dropped[3 * drops..3 * drops + 3].copy_from_slice(&[word, x as u32, y as u32]);
+                drops += 1;
+            }
+        }
+    }
+    marks.fill(0);
+    Ok(match enough {
+        true => Answer::new(0, keeps as u32, drops as u32),
+        false => Answer::new(8, words.len() as u32, 0),
+    })
 }
 
 /// The words of a sorted list, each once, into its front: how many they are.
@@ -368,6 +419,21 @@ impl<'a> Net<'a> {
         let wanted = if word % 2 == 0 { U } else { F };
         self.scan_whole(tail_of(word), marks);
         marks[head_of(word)] & wanted != 0
+    }
+
+    /// The smallest clash of a net that has none without the word: one scan with T on its tail, and U or F on its head, leaves T
+    /// and F exactly on the nodes that clash, and a scan from the smallest of them shows its kinds.
+    fn clash_by(&self, word: u32, marks: &mut [u8]) -> Option<(usize, usize)> {
+        marks.fill(0);
+        marks[tail_of(word)] |= T;
+        marks[head_of(word)] |= if word % 2 == 0 { U } else { F };
+        while self.round(marks) {}
+        let x = marks.iter().position(|byte| byte & (T | F) == T | F)?;
+        self.scan_whole(x, marks);
+        let y = marks[self.objects..]
+            .iter()
+            .position(|byte| byte & (U | F) == U | F);
+        Some((x, self.objects + y.expect("the node clashes at some kind")))
     }
 
     /// The scan with a budget that no net spends.

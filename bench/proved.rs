@@ -79,6 +79,18 @@ mod c {
             marks: *mut u8,
             marks_len: usize,
         ) -> Answer;
+        pub fn strumelka_mend(
+            o: u32,
+            k: u32,
+            words: *const u32,
+            words_len: usize,
+            kept: *mut u32,
+            kept_len: usize,
+            dropped: *mut u32,
+            dropped_len: usize,
+            marks: *mut u8,
+            marks_len: usize,
+        ) -> Answer;
         pub fn strumelka_reason(
             o: u32,
             k: u32,
@@ -117,6 +129,7 @@ pub const ENGINE: Engine = Engine {
     completion,
     clash,
     compact,
+    mend,
     reason,
     reason_check,
 };
@@ -235,6 +248,30 @@ fn compact(o: u32, k: u32, list: &mut [u32], marks: &mut [u8]) -> Answer {
             k,
             list.as_mut_ptr(),
             list.len(),
+            marks.as_mut_ptr(),
+            marks.len(),
+        )
+    }
+}
+
+fn mend(
+    o: u32,
+    k: u32,
+    words: &[u32],
+    kept: &mut [u32],
+    dropped: &mut [u32],
+    marks: &mut [u8],
+) -> Answer {
+    unsafe {
+        c::strumelka_mend(
+            o,
+            k,
+            words.as_ptr(),
+            words.len(),
+            kept.as_mut_ptr(),
+            kept.len(),
+            dropped.as_mut_ptr(),
+            dropped.len(),
             marks.as_mut_ptr(),
             marks.len(),
         )

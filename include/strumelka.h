@@ -61,13 +61,14 @@ extern "C" {
 #define STRUMELKA_NO_ORIGIN 0u
 #define STRUMELKA_ALL_ORIGINS 15u
 
-/* Buffer sizes for a net of o objects and k kinds, in elements; constant where o and k are.
- * MARKS and SCRATCH are what a call needs, and less is refused. REASON_LIST and COMPLETION_LIST are the most that any
- * net of that size can need: a shorter list is fine where the result fits it. */
+/* Buffer sizes for a net of o objects and k kinds, and of so many words, in elements; constant where these are.
+ * MARKS, SCRATCH and DROPPED_LIST are what a call needs, and less is refused. REASON_LIST and COMPLETION_LIST are the most
+ * that any net of that size can need: a shorter list is fine where the result fits it. */
 #define STRUMELKA_MARKS(o, k) ((size_t)(o) + (size_t)(k))
 #define STRUMELKA_SCRATCH(o, k) (2u * STRUMELKA_MARKS(o, k))
 #define STRUMELKA_REASON_LIST(o, k) ((size_t)2 + 2u * (size_t)(k) + ((o) > 0 ? 1u : 0u))
 #define STRUMELKA_COMPLETION_LIST(o, k) (2u * STRUMELKA_MARKS(o, k) * (size_t)(k))
+#define STRUMELKA_DROPPED_LIST(words) ((size_t)3 * (size_t)(words))
 
 /* The bits of a byte of marks. */
 #define STRUMELKA_MARK_T 1u
@@ -201,6 +202,21 @@ struct strumelka_answer strumelka_clash(
  * With 0 the first o + k bytes of marks are zero afterwards. */
 struct strumelka_answer strumelka_compact(
     uint32_t o, uint32_t k, uint32_t *list, size_t list_len, uint8_t *marks, size_t marks_len);
+
+/* Mending: the plain words are read in their order, and each is kept exactly if those kept before it have no clash together
+ * with it. A net without clashes is kept whole, repeats too.
+ *   0        first = the words kept, in the front of kept in the order of words; second = the words dropped, each with the
+ *            smallest node at which it would have clashed and that node's smallest kind, three places of dropped for each;
+ *            places after both unchanged
+ *   1, 2, 3  as in strumelka_compact
+ *   5        marks_len is below STRUMELKA_MARKS(o, k); kept, dropped and marks unchanged
+ *   8        kept_len is below words_len, or dropped_len below STRUMELKA_DROPPED_LIST(words_len), whatever would be
+ *            written; first = words_len; kept and dropped unchanged
+ * With 0 and 8 the first o + k bytes of marks are zero afterwards. */
+struct strumelka_answer strumelka_mend(
+    uint32_t o, uint32_t k, const uint32_t *words, size_t words_len,
+    uint32_t *kept, size_t kept_len, uint32_t *dropped, size_t dropped_len,
+    uint8_t *marks, size_t marks_len);
 
 /* The shortest reason for a statement: node x is of kind y (sign STRUMELKA_IS), or is not (STRUMELKA_IS_NOT). The list
  * begins with the sizes of the path's first and second part, and the nodes of both follow.

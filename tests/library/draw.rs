@@ -38,7 +38,7 @@ fn draw_field(random: &mut Random, net: &Net, field: Field) -> Vec<u32> {
         Field::Objects => vec![net.o],
         Field::Kinds => vec![net.k],
         Field::Words => net.words.clone(),
-        Field::Links => draw_plain(random, net),
+        Field::Plain | Field::Links => draw_plain(random, net),
         Field::Set => vec![draw_set(random)],
         Field::Word => vec![draw_word(random, net)],
         Field::Node => vec![draw_node(random, net)],
@@ -52,6 +52,14 @@ fn draw_field(random: &mut Random, net: &Net, field: Field) -> Vec<u32> {
         }
         Field::Scratch => {
             let size = draw_size(random, 2 * nodes);
+            garbage(random, field, size)
+        }
+        Field::Kept => {
+            let size = draw_room(random, net.words.len());
+            garbage(random, field, size)
+        }
+        Field::Dropped => {
+            let size = draw_room(random, 3 * net.words.len());
             garbage(random, field, size)
         }
         Field::Answers | Field::List | Field::Reason | Field::Path => Vec::new(),
@@ -95,12 +103,7 @@ fn completed(net: &Net, operations: &[Operation]) -> Vec<u32> {
 
 /// As many bytes for answers as there are pairs, or about as many.
 fn fit_to_pairs(random: &mut Random, case: &mut Case) {
-    let pairs = case.values_of(Field::Pairs).len() / 2;
-    let size = if random.chance(60) {
-        pairs + random.below(3)
-    } else {
-        draw_size(random, pairs)
-    };
+    let size = draw_room(random, case.values_of(Field::Pairs).len() / 2);
     case.set(Field::Answers, garbage(random, Field::Answers, size));
 }
 
@@ -230,6 +233,15 @@ fn draw_size(random: &mut Random, needed: usize) -> usize {
         80..=89 => random.below(needed),
         90..=95 => needed + random.within(20, 3000),
         _ => 0,
+    }
+}
+
+/// The same, with enough room more often.
+fn draw_room(random: &mut Random, needed: usize) -> usize {
+    if random.chance(60) {
+        needed + random.below(3)
+    } else {
+        draw_size(random, needed)
     }
 }
 

@@ -5,6 +5,7 @@ pub enum Field {
     Objects,
     Kinds,
     Words,
+    Plain,
     Links,
     Set,
     Word,
@@ -16,6 +17,8 @@ pub enum Field {
     Answers,
     Marks,
     List,
+    Kept,
+    Dropped,
     Scratch,
     Reason,
     Path,
@@ -49,10 +52,11 @@ const fn shape(name: &'static str, field: Field, width: usize, most: usize, lent
     }
 }
 
-static SHAPES: [Shape; 19] = [
+static SHAPES: [Shape; 22] = [
     number("o", Field::Objects),
     number("k", Field::Kinds),
     shape("words", Field::Words, 4, 16_384, false),
+    shape("plain", Field::Plain, 4, 16_384, false),
     shape("links", Field::Links, 4, 16_384, true),
     number("set", Field::Set),
     number("word", Field::Word),
@@ -64,6 +68,8 @@ static SHAPES: [Shape; 19] = [
     shape("answers", Field::Answers, 1, 2_048, true),
     shape("marks", Field::Marks, 1, 2_048, true),
     shape("list", Field::List, 4, 16_384, true),
+    shape("kept", Field::Kept, 4, 16_384, true),
+    shape("dropped", Field::Dropped, 4, 16_384, true),
     shape("scratch", Field::Scratch, 2, 4_096, true),
     shape("reason", Field::Reason, 2, 4_096, true),
     shape("path", Field::Path, 2, 4_096, false),

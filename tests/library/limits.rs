@@ -5,10 +5,15 @@ use crate::call::{run, Outcome};
 use crate::case::Case;
 use crate::draw::draw_case;
 use crate::fields::Field;
-use crate::nets::{draw_origin, plain, random_net, Net, ALL_ORIGINS, WORD_LIMIT};
+use crate::nets::{draw_origin, plain, random_net, word, Net, ALL_ORIGINS, WORD_LIMIT};
 use crate::operations::{Effort, Operation};
 use crate::random::Random;
 use crate::tally::Tally;
+
+const MEND: &str = "mend";
+
+/// The fields that are a net's words.
+const WORD_LISTS: [Field; 3] = [Field::Words, Field::Plain, Field::Links];
 
 /// Every operation of the archive that is lent a net's words, on nets that are refused for their words and on nets with as many as are allowed.
 pub fn calls_at_limit(
@@ -44,7 +49,8 @@ pub fn calls_at_limit(
             .iter_mut()
             .for_each(|word| *word += draw_origin(&mut random));
         let many = repeated(&mut random, &few);
-        for operation in on_nets(operations).filter(|it| efforts.contains(&it.effort)) {
+        let quick = |it: &&Operation| efforts.contains(&it.effort) && it.name != MEND;
+        for operation in on_nets(operations).filter(quick) {
             let mut case = draw_case(&mut random, &many, operations, operation);
             case.set(Field::Set, vec![random.below(16) as u32]);
             case.set(Field::Links, without_origins(&many.words));
@@ -58,6 +64,37 @@ pub fn calls_at_limit(
             hold(&whole, &expected, tally)?;
         }
     }
+    mend_clashing(operations, tally)
+}
+
+/// As many words as are allowed, none of which can be kept: what is kept is read again for every word, so that others would take
+/// too long. With a place less the call is number 8.
+fn mend_clashing(operations: &[Operation], tally: &mut Tally) -> Result<(), String> {
+    let operation = operations.iter().find(|it| it.name == MEND);
+    let operation = operation.expect("the archive mends nets");
+    let clashing = word(0, 0, 1);
+    for missing in [0, 1] {
+        let fill = |&field: &Field| match field {
+            Field::Objects => vec![0],
+            Field::Kinds => vec![1],
+            Field::Plain => vec![clashing; WORD_LIMIT],
+            Field::Kept => vec![7; WORD_LIMIT],
+            Field::Dropped => vec![8; 3 * WORD_LIMIT - missing],
+            _ => vec![9; 2],
+        };
+        let values: Vec<Vec<u32>> = operation.fields.iter().map(fill).collect();
+        let case = Case { operation, values };
+        let limit = WORD_LIMIT as u32;
+        let (answer, dropped) = match missing {
+            0 => (
+                Answer::new(0, 0, limit),
+                [clashing, 0, 0].repeat(WORD_LIMIT),
+            ),
+            _ => (Answer::new(8, limit, 0), vec![8; 3 * WORD_LIMIT - missing]),
+        };
+        let lists = vec![vec![7; WORD_LIMIT], dropped, vec![0, 9]];
+        hold(&case, &Outcome { answer, lists }, tally)?;
+    }
     Ok(())
 }
 
@@ -66,8 +103,7 @@ fn without_origins(words: &[u32]) -> Vec<u32> {
 }
 
 fn on_nets(operations: &[Operation]) -> impl Iterator<Item = &Operation> {
-    let lent_words =
-        |it: &&Operation| it.fields.contains(&Field::Words) || it.fields.contains(&Field::Links);
+    let lent_words = |it: &&Operation| WORD_LISTS.iter().any(|list| it.fields.contains(list));
     operations
         .iter()
         .filter(|it| it.call.is_some())
@@ -113,7 +149,10 @@ fn hold(case: &Case, expected: &Outcome, tally: &mut Tally) -> Result<(), String
     Err(format!(
         "{} with {} words\nexpected: {}\narchive:  {}",
         case.operation.name,
-        case.values_of(Field::Words).len() + case.values_of(Field::Links).len(),
+        WORD_LISTS
+            .map(|list| case.values_of(list).len())
+            .iter()
+            .sum::<usize>(),
         expected,
         found
     ))

@@ -55,6 +55,27 @@ fn compacted(o: usize, nodes: usize, words: &[u32]) -> BTreeSet<u32> {
     left
 }
 
+/// The smallest node that both is and is not some kind, and its smallest such kind.
+fn clash(set: &BTreeSet<u32>) -> Option<[u32; 2]> {
+    let both = |it: &&u32| **it % 2 == 0 && set.contains(&(**it + 1));
+    let first = set.iter().find(both)?;
+    Some([tail_of(*first) as u32, head_of(*first) as u32])
+}
+
+/// The plain words that are kept where each goes that clashes with those before it; and each other, with its node and kind.
+fn mended(o: usize, nodes: usize, words: &[u32]) -> (Vec<u32>, Vec<u32>) {
+    let (mut kept, mut dropped) = (Vec::new(), Vec::new());
+    for &it in words {
+        kept.push(it);
+        if let Some(at) = clash(&supported(o, nodes, &kept, ALL_ORIGINS)) {
+            kept.pop();
+            dropped.push(it);
+            dropped.extend(at);
+        }
+    }
+    (kept, dropped)
+}
+
 /// The statements that the net of a small case supports.
 struct Supported {
     o: usize,
@@ -100,6 +121,13 @@ pub fn held_to_rules(case: &Case, found: &Outcome) -> Result<bool, String> {
             let size = found.lists[0].len();
             let freed = std::iter::repeat(&0).take(size - left.len());
             left.iter().chain(freed).eq(&found.lists[0])
+        }
+        "mend" => {
+            let (kept, dropped) = mended(o, nodes, case.values_of(Field::Plain));
+            found.answer.first as usize == kept.len()
+                && found.answer.second as usize == dropped.len() / 3
+                && found.lists[0].starts_with(&kept)
+                && found.lists[1].starts_with(&dropped)
         }
         _ => return Ok(false),
     };

@@ -36,6 +36,10 @@ static const uint32_t filled[] = {
 };
 static uint32_t links[COUNT(filled)];
 
+/* Room for the words above that are kept, and for those that are dropped, as the last one is. */
+static uint32_t kept[COUNT(words)];
+static uint32_t dropped[STRUMELKA_DROPPED_LIST(COUNT(words))];
+
 static uint8_t marks[OBJECTS + KINDS];
 static uint32_t list[4096];
 static uint16_t scratch[2 * (OBJECTS + KINDS)];
@@ -63,6 +67,9 @@ static const struct {
     {"pairs", {0, pairs, COUNT(pairs)}},
     {"answers", {0, answers, COUNT(answers)}},
     {"links", {0, links, COUNT(links)}},
+    {"plain", {0, words, COUNT(words)}},
+    {"kept", {0, kept, COUNT(kept)}},
+    {"dropped", {0, dropped, COUNT(dropped)}},
 };
 
 /* The call, and what it answers. */

@@ -6,12 +6,10 @@ ghost use Prim.Native.Nat.{_+_, _-_, _<_, _≤_};
 ghost use lib.ListN.{length, getD, take, drop};
 ghost use Rattle.theory.specs.Nets.{Net, LegalWord};
 ghost use Rattle.theory.specs.Compaction.{without, supports, thin};
+use net_word::PLAIN_SET;
 use net_word::head_of;
 use net_word::tail_of;
 use question::full_scan;
-
-// A plain list is read with the set of origin 0.
-const PLAIN: u32 = 1;
 
 // Whether the words support what `word` says: one scan from its tail, read at its head.
 fn is_supported(o: u32, k: u32, n: usize, words: &[u32], word: u32, marks: &mut [u8]) -> bool
@@ -22,7 +20,7 @@ fn is_supported(o: u32, k: u32, n: usize, words: &[u32], word: u32, marks: &mut 
     ensures answer { λ r. ⌜ r ≡ supports o k (now (words .entry)) word ⌝ }
     ensures past { λ r. ⌜ drop n (now (marks .exit)) ≡ drop n (now (marks .entry)) ⌝ }
 {
-    full_scan(o, k, n, words, PLAIN, tail_of(word) as u32, marks);
+    full_scan(o, k, n, words, PLAIN_SET, tail_of(word) as u32, marks);
     let byte = marks[head_of(word)];
     if word % 2 == 0 {
         byte / 4 % 2 == 1

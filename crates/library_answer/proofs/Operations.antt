@@ -21,6 +21,7 @@ use Rattle.clash.specs.declared.Clashed.the-variants as clashed
 use Rattle.completion.specs.Table.{CompletionOutcome, completionOutcome, completionClauses, completionDone, completedBy, completedReply}
 use Rattle.completion.specs.declared.Completed.the-variants as completed
 use Rattle.compact.specs.Table.{CompactionOutcome, compactedReply}
+use Rattle.mend.specs.Table.{MendingOutcome, mendedReply}
 use Rattle.reason.specs.Table.{ReasonOutcome, reasonedReply}
 use Rattle.library_reply.specs.Fits.{Fits}
 use Rattle.library_reply.proofs.Fitting.{either, fits, bare, table-fits}
@@ -40,6 +41,10 @@ questionsGives q = askedAllReply (q .answer)
 -- The reply of what a compaction leaves.
 abbrev pub compactionGives : CompactionOutcome → Reply
 compactionGives s = compactedReply (s .answer)
+
+-- The reply of what mending leaves.
+abbrev pub mendingGives : MendingOutcome → Reply
+mendingGives s = mendedReply (s .answer)
 
 -- The reply of what a reason leaves.
 abbrev pub reasonGives : ReasonOutcome → Reply

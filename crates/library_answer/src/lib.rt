@@ -1,4 +1,4 @@
-// The answers of scan, question, screenful of questions, clash test, completion, compaction, reason and reason check, each as a reply.
+// The answers of scan, question, screenful of questions, clash test, completion, compaction, mending, reason and reason check, each as a reply.
 ghost use mathlib.Core.Path.{_≡_};
 ghost use Rattle.scan.specs.Table.{scanReply};
 ghost use Rattle.question.specs.Table.{askedReply};
@@ -6,12 +6,14 @@ ghost use Rattle.questions.specs.Table.{askedAllReply};
 ghost use Rattle.clash.specs.Table.{clashedReply};
 ghost use Rattle.completion.specs.Table.{completedReply};
 ghost use Rattle.compact.specs.Table.{compactedReply};
+ghost use Rattle.mend.specs.Table.{mendedReply};
 ghost use Rattle.reason.specs.Table.{reasonedReply};
 ghost use Rattle.reason_check.specs.Table.{verdictReply};
 ghost use Rattle.library_reply.specs.Fits.{Fits};
 use clash::Clashed;
 use compact::CompactedList;
 use completion::Completed;
+use mend::MendedNet;
 use net::Reply;
 use net::refusal_given;
 use net::reply_of;
@@ -85,6 +87,17 @@ pub fn compacted_given(compacted: CompactedList) -> Reply
     match compacted {
         CompactedList::Done(size) => reply_of(0, size, 0),
         CompactedList::Refused(refusal) => refusal_given(refusal),
+    }
+}
+
+// The reply of mending.
+pub fn mended_given(mended: MendedNet) -> Reply
+    ensures { λ r. ⌜ r ≡ mendedReply mended ⌝ }
+{
+    match mended {
+        MendedNet::Done(kept, dropped) => reply_of(0, kept, dropped),
+        MendedNet::Short(needed) => reply_of(8, needed, 0),
+        MendedNet::Refused(refusal) => refusal_given(refusal),
     }
 }
 

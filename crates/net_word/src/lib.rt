@@ -15,6 +15,9 @@ pub enum Cause {
 // The largest origin.
 pub const ORIGIN_LIMIT: u32 = 3;
 
+// A set with which plain words are read: it has origin 0.
+pub const PLAIN_SET: u32 = 1;
+
 // A plain word's tail.
 pub fn tail_of(word: u32) -> usize
     ensures { λ r. ⌜ r ≡ tailOf word ⌝ }

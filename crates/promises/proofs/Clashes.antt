@@ -1,6 +1,6 @@
 -- What the clash test finds: the smallest clash of the net, or nothing exactly if no node clashes.
 use Prim.Native.Nat.{ℕ, zero, suc, _+_, _≤_, _<_}
-use mathlib.Core.Path.{_≡_, refl, sym, ap, subst, _∙_}
+use mathlib.Core.Path.{_≡_, refl, sym, ap, _∙_}
 use mathlib.Core.Bool.{Bool, true, false, cond, _&&_}
 use mathlib.Core.List.{List}
 use mathlib.Core.Logic.{_↔_}
@@ -18,7 +18,8 @@ use Rattle.theory.proofs.completion.Completing.{full-exact}
 use Rattle.clash.specs.Table.{clashNodes, firstBoth, firstClash, clashSearch, nowhere as isNowhere, clashedReply}
 use Rattle.clash.specs.declared.Clashed.{Clashed}
 use Rattle.clash.specs.declared.Clashed.the-variants.{At, Nowhere}
-use Rattle.promises.specs.Clashing.{ClashAt, SmallestClash}
+use Rattle.theory.specs.Clashes.{ClashAt, SmallestClash}
+use Rattle.theory.proofs.mending.Computing.{smallest-unique}
 
 -- Both marks at y.
 abbrev both : List ℕ → ℕ → Bool
@@ -137,12 +138,6 @@ module _ (o k : ℕ) (ws : List ℕ) where
             pick (yes l) = contradiction (sym (w .before v (c .kind) l) ∙ marks-of x v c)
             pick (no l) = omega arith
 
-    -- There is one smallest clash at most.
-    pub smallest-unique : (x y u v : ℕ) → SmallestClash o k ws x y → SmallestClash o k ws u v → (x ≡ u) × (y ≡ v)
-    smallest-unique x y u v c d =
-        let e : x ≡ u = omega (arith, c .node u v (d .clash), d .node x y (c .clash)) in
-        (e, omega (arith, c .kind v (subst (λ (w : ℕ). ClashAt o k ws w v) (sym e) (d .clash)), d .kind y (subst (λ (w : ℕ). ClashAt o k ws w y) e (c .clash))))
-
     is-smallest : (x y : ℕ) → clashSearch o k ws ≡ At x y → SmallestClash o k ws x y
     is-smallest x y e = at (search 0 (clashNodes o k))
       where
@@ -157,7 +152,7 @@ module _ (o k : ℕ) (ws : List ℕ) where
     smallest-is x y c = at (search 0 (clashNodes o k))
       where
         at : Found 0 (clashNodes o k) (clashSearch o k ws) → clashSearch o k ws ≡ At x y
-        at (somewhere u v f l h w b) = let (p, q) = smallest-unique x y u v c (war-smallest u v (omega arith) w b) in rw (p, q) f
+        at (somewhere u v f l h w b) = let (p, q) = smallest-unique o k ws x y u v c (war-smallest u v (omega arith) w b) in rw (p, q) f
         at (nowhere f b) = no-peace x y (c .clash) (b x (omega arith) (omega (arith, c .clash .node)))
 
     -- The clash test gives x and y exactly if they are the smallest clash.

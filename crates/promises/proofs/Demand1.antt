@@ -3,7 +3,7 @@
 use Prim.Native.Nat.{ℕ, zero, suc, _+_}
 use mathlib.Core.Path.{_≡_, refl, sym}
 use mathlib.Core.Bool.{Bool, true, false, cond}
-use mathlib.Core.List.{List}
+use mathlib.Core.List.{List, []}
 use lib.Dec.{ltb}
 use Rattle.theory_laws.proofs.Booleans.{contradiction}
 use Rattle.theory.specs.Words.{signAt}
@@ -11,6 +11,7 @@ use Rattle.theory.specs.Completion.{fullMarks, complete}
 use Rattle.theory.specs.Checks.{passes}
 use Rattle.theory.specs.Origins.{chosen}
 use Rattle.theory.specs.Compaction.{compacted}
+use Rattle.theory.specs.Mending.{keptFrom, droppedFrom}
 use Rattle.net.specs.Table.{checkNet}
 use Rattle.check_word.specs.Table.{wordTable, checkWord}
 use Rattle.check_word.specs.declared.WordChecked.the-variants.{Legal}
@@ -21,6 +22,7 @@ use Rattle.clash.specs.declared.Clashed.{Clashed}
 use Rattle.clash.specs.declared.Clashed.the-variants as clashed
 use Rattle.completion.specs.Table.{completionTable, completionDone, completedBy}
 use Rattle.compact.specs.Table.{compactionTable, compactionDone, compactedBy}
+use Rattle.mend.specs.Table.{mendingTable, mendingDone, mendedBy}
 use Rattle.reason.specs.Table.{reasonTable, reasonDone, reasoned}
 use Rattle.reason_check.specs.Table.{checkTable, checkDone, verdict}
 use Rattle.reason_check.specs.declared.Verdict.the-variants.{Holds, Fails}
@@ -31,7 +33,7 @@ use Rattle.question.specs.Table.{questionTable, questionDone}
 use Rattle.questions.specs.Table.{questionsTable, questionsDone, questionedAll}
 use Rattle.netfile.specs.Table.{readFrom, fileTable, fileDone}
 use Rattle.netfile.proofs.Called.{file-called}
-use Rattle.promises.specs.Numbers.{wordNumber, checkedNumber, scanNumber, questionNumber, clashNumber, completionNumber, reasonNumber, verdictNumber, questionsNumber, compactionNumber, fileNumber}
+use Rattle.promises.specs.Numbers.{wordNumber, checkedNumber, scanNumber, questionNumber, clashNumber, completionNumber, reasonNumber, verdictNumber, questionsNumber, compactionNumber, mendingNumber, fileNumber}
 use Rattle.promises.specs.Engines.{ours}
 use Rattle.promises.specs.Demand1.{Demand1}
 use Rattle.promises.proofs.Deciding.{obeys}
@@ -112,6 +114,13 @@ compaction-obeys o k ws m =
     obeys compactionNumber _ _ (record { numbered = (refl, (refl, (refl, (refl, tt)))); once = refl; nonzero = refl; zero = λ h. refl }) _
     refl
 
+-- Mending: numbers 1 to 3, 5 and 8, or 0.
+pub mending-obeys : (o k : ℕ) (ws kept dropped m : List ℕ)
+    → Obeys mendingNumber (mendingTable o k ws kept dropped m) (mendingDone (keptFrom o k [] ws) (droppedFrom o k [] ws) kept dropped m (o + k)) (mendedBy o k ws kept dropped m)
+mending-obeys o k ws kept dropped m =
+    obeys mendingNumber _ _ (record { numbered = (refl, (refl, (refl, (refl, (refl, tt))))); once = refl; nonzero = refl; zero = λ h. refl }) _
+    refl
+
 -- The file reader: 9, or 0.
 pub file-obeys : (s : List ℕ) → Obeys fileNumber (fileTable s) (fileDone s) (readFrom s)
 file-obeys s =
@@ -131,4 +140,5 @@ demand-1 = record {
   reasonCheck = check-obeys;
   questions = questions-obeys;
   compaction = compaction-obeys;
+  mending = mending-obeys;
 }

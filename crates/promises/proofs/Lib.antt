@@ -19,6 +19,7 @@ pub mod NetAnswers
 pub mod Demand3
 pub mod FromKind
 pub mod Compacting
+pub mod Mending
 pub mod Origins
 pub mod Uniqueness
 pub mod Readings

@@ -28,7 +28,7 @@ use Rattle.completion.specs.Table.{completedBy}
 use Rattle.promises.specs.Numbers.{wordNumber, checkedNumber, scanNumber, clashNumber, completionNumber}
 use Rattle.promises.specs.Tables.{Obeys}
 use Rattle.promises.specs.Engines.{Read}
-use Rattle.promises.specs.Clashing.{ClashAt}
+use Rattle.theory.specs.Clashes.{ClashAt}
 use Rattle.promises.proofs.Clashes.{some-clash-exactly}
 use Rattle.promises.proofs.Demand1.{word-obeys, net-obeys, scan-obeys, clash-obeys, completion-obeys}
 use Rattle.promises.proofs.Tests.{clause-1, clause-2, clause-15, first, clause-3, past-checks, chosen-of, node-exactly, clause-4-start, clause-5, within-exactly, clause-6, clause-7-clash, clause-8}

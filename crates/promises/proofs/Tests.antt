@@ -38,7 +38,7 @@ use Rattle.clash.specs.Table.{clashSearch, nowhere}
 use Rattle.questions.specs.Pairs.{pairsIn, pairLimit}
 use Rattle.questions.specs.Table.{badPairs}
 use Rattle.promises.specs.Engines.{Read}
-use Rattle.promises.specs.Clashing.{ClashAt}
+use Rattle.theory.specs.Clashes.{ClashAt}
 use Rattle.promises.proofs.Clashes.{no-clash-exactly}
 
 module _ (o k : ℕ) (ws : List ℕ) where

@@ -20,6 +20,8 @@ use Rattle.completion.specs.Table.{CompletionOutcome, completionOutcome, comple
 use Rattle.completion.specs.declared.Completed.{Completed}
 use Rattle.compact.specs.Table.{CompactionOutcome, compactionOutcome, compactedBy}
 use Rattle.compact.specs.declared.CompactedList.{CompactedList}
+use Rattle.mend.specs.Table.{MendingOutcome, mendingOutcome, mendedBy}
+use Rattle.mend.specs.declared.MendedNet.{MendedNet}
 use Rattle.reason.specs.Table.{ReasonOutcome, reasonOutcome, reasoned}
 use Rattle.reason.specs.declared.Reasoned.{Reasoned}
 use Rattle.reason_check.specs.Table.{verdict}
@@ -100,6 +102,13 @@ pub compaction-unique : (o k : ℕ) (list marks : List ℕ) (r q : CompactedList
 compaction-unique o k list marks r q m l c d e f =
     let p = both-are (compactionOutcome r m c) (compactionOutcome q l d) e f in
     (ap (λ (s : CompactionOutcome). s .answer) p, ap (λ (s : CompactionOutcome). s .list) p, ap (λ (s : CompactionOutcome). s .marks) p)
+
+-- Mending: m and l the lists of kept words, c and d those of dropped words, a and b the marks left.
+pub mending-unique : (o k : ℕ) (ws kept dropped marks : List ℕ) (r q : MendedNet) (m l c d a b : List ℕ)
+    → mendingOutcome r m c a ≡ mendedBy o k ws kept dropped marks → mendingOutcome q l d b ≡ mendedBy o k ws kept dropped marks → (r ≡ q) × (m ≡ l) × (c ≡ d) × (a ≡ b)
+mending-unique o k ws kept dropped marks r q m l c d a b e f =
+    let p = both-are (mendingOutcome r m c a) (mendingOutcome q l d b) e f in
+    (ap (λ (s : MendingOutcome). s .answer) p, ap (λ (s : MendingOutcome). s .kept) p, ap (λ (s : MendingOutcome). s .dropped) p, ap (λ (s : MendingOutcome). s .marks) p)
 
 -- The reader of a file: the contents, and the bytes of the four bodies.
 pub contents-unique : (file : List ℕ) (r q : Contents) → r ≡ contentsOf file → q ≡ contentsOf file → r ≡ q

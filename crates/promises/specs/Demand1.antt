@@ -1,6 +1,6 @@
 -- Demand 1: whatever numbers and buffers it is lent, each operation on a word or a net gives the number that is due by its table and leaves each buffer as that clause says.
 use Prim.Native.Nat.{ℕ, _+_}
-use mathlib.Core.List.{List}
+use mathlib.Core.List.{List, []}
 use Rattle.promises.specs.Tables.{Obeys}
 use Rattle.net.specs.Table.{netTable, netDone}
 use Rattle.check_word.specs.Table.{wordTable}
@@ -11,12 +11,14 @@ use Rattle.questions.specs.Table.{questionsTable, questionsDone}
 use Rattle.theory.specs.Completion.{complete}
 use Rattle.theory.specs.Origins.{chosen}
 use Rattle.theory.specs.Compaction.{compacted}
+use Rattle.theory.specs.Mending.{keptFrom, droppedFrom}
 use Rattle.clash.specs.Table.{clashSearch, clashTable, clashDone}
 use Rattle.completion.specs.Table.{completionTable, completionDone}
 use Rattle.compact.specs.Table.{compactionTable, compactionDone}
+use Rattle.mend.specs.Table.{mendingTable, mendingDone}
 use Rattle.reason.specs.Table.{reasonTable, reasonDone}
 use Rattle.reason_check.specs.Table.{checkTable, checkDone}
-use Rattle.promises.specs.Numbers.{wordNumber, checkedNumber, scanNumber, questionNumber, clashNumber, completionNumber, reasonNumber, verdictNumber, questionsNumber, compactionNumber}
+use Rattle.promises.specs.Numbers.{wordNumber, checkedNumber, scanNumber, questionNumber, clashNumber, completionNumber, reasonNumber, verdictNumber, questionsNumber, compactionNumber, mendingNumber}
 use Rattle.promises.specs.Engines.{Engine}
 
 pub record Demand1 (e : Engine) : Type 0 where
@@ -37,3 +39,5 @@ pub record Demand1 (e : Engine) : Type 0 where
   pub questions : (o k : ℕ) (ws : List ℕ) (set : ℕ) (ps bs m : List ℕ)
       → Obeys questionsNumber (questionsTable o k ws set ps bs m) (questionsDone o (chosen set ws) ps bs m (o + k)) (e .questions o k ws set ps bs m)
   pub compaction : (o k : ℕ) (ws m : List ℕ) → Obeys compactionNumber (compactionTable o k ws m) (compactionDone (compacted o k ws) ws m (o + k)) (e .compaction o k ws m)
+  pub mending : (o k : ℕ) (ws kept dropped m : List ℕ)
+      → Obeys mendingNumber (mendingTable o k ws kept dropped m) (mendingDone (keptFrom o k [] ws) (droppedFrom o k [] ws) kept dropped m (o + k)) (e .mending o k ws kept dropped m)

@@ -20,12 +20,13 @@ use Rattle.questions.specs.Table.{QuestionsOutcome, questionedAll}
 use Rattle.clash.specs.Table.{ClashOutcome, clashedBy}
 use Rattle.completion.specs.Table.{CompletionOutcome, completedBy}
 use Rattle.compact.specs.Table.{CompactionOutcome, compactedBy}
+use Rattle.mend.specs.Table.{MendingOutcome, mendedBy}
 use Rattle.reason.specs.Table.{ReasonOutcome, reasoned}
 use Rattle.reason_check.specs.Table.{verdict}
 use Rattle.reason_check.specs.declared.Verdict.{Verdict}
 
 -- The operations, the test of a word first, each over objects, kinds, words, a set of origins, what is asked, and the lent buffers as they are at entry.
--- The compaction reads a plain list, which is lent to be written, and no set.
+-- Compaction and mending read a plain list and no set; what is compacted is lent to be written.
 pub record Engine : Type 0 where
   pub wordCheck : ℕ → ℕ → ℕ → WordChecked
   pub netCheck : ℕ → ℕ → List ℕ → ℕ → Checked
@@ -37,6 +38,7 @@ pub record Engine : Type 0 where
   pub reasonCheck : ℕ → ℕ → List ℕ → ℕ → ℕ → ℕ → ℕ → List ℕ → Verdict
   pub questions : ℕ → ℕ → List ℕ → ℕ → List ℕ → List ℕ → List ℕ → QuestionsOutcome
   pub compaction : ℕ → ℕ → List ℕ → List ℕ → CompactionOutcome
+  pub mending : ℕ → ℕ → List ℕ → List ℕ → List ℕ → List ℕ → MendingOutcome
 
 -- A net whose words have origins, and a set of origins to read it with.
 pub record Read (o k : ℕ) (ws : List ℕ) (set : ℕ) : Type 0 where
@@ -61,6 +63,7 @@ ours = record {
   reasonCheck = verdict;
   questions = questionedAll;
   compaction = compactedBy;
+  mending = mendedBy;
 }
 
 -- What a scan leaves, done or spent, with the bytes `past` behind its marks.
@@ -90,6 +93,7 @@ withScan f = record {
   reasonCheck = ours .reasonCheck;
   questions = ours .questions;
   compaction = ours .compaction;
+  mending = ours .mending;
 }
 
 abbrev pub withQuestion : (ℕ → ℕ → List ℕ → ℕ → ℕ → ℕ → List ℕ → QuestionOutcome) → Engine
@@ -104,6 +108,7 @@ withQuestion f = record {
   reasonCheck = ours .reasonCheck;
   questions = ours .questions;
   compaction = ours .compaction;
+  mending = ours .mending;
 }
 
 abbrev pub withCompletion : (ℕ → ℕ → List ℕ → ℕ → List ℕ → List ℕ → CompletionOutcome) → Engine
@@ -118,4 +123,5 @@ withCompletion f = record {
   reasonCheck = ours .reasonCheck;
   questions = ours .questions;
   compaction = ours .compaction;
+  mending = ours .mending;
 }

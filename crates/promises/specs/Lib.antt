@@ -10,6 +10,7 @@ pub mod AskingAll
 pub mod Demand3
 pub mod FromKind
 pub mod Compacting
+pub mod Mending
 pub mod Origins
 pub mod Readings
 pub mod AskM

@@ -10,6 +10,7 @@ use Rattle.questions.specs.Table.{QuestionsOutcome, askedAllReply}
 use Rattle.clash.specs.Table.{ClashOutcome, clashedReply}
 use Rattle.completion.specs.Table.{CompletionOutcome, completedReply}
 use Rattle.compact.specs.Table.{CompactionOutcome, compactedReply}
+use Rattle.mend.specs.Table.{MendingOutcome, mendedReply}
 use Rattle.reason.specs.Table.{ReasonOutcome, reasonedReply}
 use Rattle.reason_check.specs.Table.{verdictReply}
 use Rattle.reason_check.specs.declared.Verdict.{Verdict}
@@ -45,6 +46,9 @@ questionsNumber r = askedAllReply (r .answer) .number
 
 abbrev pub compactionNumber : CompactionOutcome → ℕ
 compactionNumber r = compactedReply (r .answer) .number
+
+abbrev pub mendingNumber : MendingOutcome → ℕ
+mendingNumber r = mendedReply (r .answer) .number
 
 abbrev pub fileNumber : FileOutcome → ℕ
 fileNumber r = contentsReply (r .contents) .number

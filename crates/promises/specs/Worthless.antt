@@ -24,6 +24,8 @@ use Rattle.completion.specs.Table.{CompletionOutcome, completionOutcome, comple
 use Rattle.completion.specs.declared.Completed.the-variants as completed
 use Rattle.compact.specs.Table.{compactionOutcome}
 use Rattle.compact.specs.declared.CompactedList.the-variants as compactedList
+use Rattle.mend.specs.Table.{mendingOutcome}
+use Rattle.mend.specs.declared.MendedNet.the-variants as mendedNet
 use Rattle.reason.specs.Table.{reasonOutcome}
 use Rattle.reason.specs.declared.Reasoned.the-variants as reasonedAs
 use Rattle.reason_check.specs.declared.Verdict.the-variants as verdictAs
@@ -44,6 +46,7 @@ refuser r = record {
   reasonCheck = λ o k ws set x y sign l. verdictAs.Refused r;
   questions = λ o k ws set ps bs m. questionsOutcome (askedAll.Refused r) bs m;
   compaction = λ o k ws m. compactionOutcome (compactedList.Refused r) ws m;
+  mending = λ o k ws kept dropped m. mendingOutcome (mendedNet.Refused r) kept dropped m;
 }
 
 -- An answer turned into none.
@@ -108,4 +111,5 @@ hasty = record {
   reasonCheck = ours .reasonCheck;
   questions = ours .questions;
   compaction = ours .compaction;
+  mending = ours .mending;
 }

@@ -4,12 +4,14 @@ use crate::other;
 use crate::proved;
 use readings_cases::buffers::lend_links;
 use readings_cases::buffers::lend_list;
+use readings_cases::buffers::lend_mended;
 use readings_cases::buffers::lend_pairs;
 use readings_cases::buffers::lend_scratch;
 use readings_cases::buffers::lend_text;
 use readings_cases::buffers::take_answers;
 use readings_cases::buffers::take_links;
 use readings_cases::buffers::take_list;
+use readings_cases::buffers::take_mended;
 use readings_cases::buffers::take_scratch;
 use readings_cases::buffers::take_text;
 use readings_cases::operations::Numbers;
@@ -206,6 +208,76 @@ fn with_links(
     reply
 }
 
+// The mending, with the first places of both lists and of marks.
+fn on_mended(
+    engine: Engine,
+    n: Numbers,
+    words: &[u32],
+    first: usize,
+    second: usize,
+    third: usize,
+    kept: &mut [u32],
+    dropped: &mut [u32],
+    marks: &mut [u8],
+) -> Reply {
+    let a = least(first, kept.len());
+    let b = least(second, dropped.len());
+    let c = least(third, marks.len());
+    match engine {
+        Engine::Proved => proved::on_mended(
+            n,
+            words,
+            &mut kept[..a],
+            &mut dropped[..b],
+            &mut marks[..c],
+        ),
+        Engine::Second => other::on_mended(
+            n,
+            words,
+            &mut kept[..a],
+            &mut dropped[..b],
+            &mut marks[..c],
+        ),
+    }
+}
+
+// The same, with the three buffers.
+fn with_mended(
+    engine: Engine,
+    n: Numbers,
+    words: &[u32],
+    first: usize,
+    second: usize,
+    third: usize,
+    buffers: &mut [u32],
+) -> Reply {
+    let mut kept = [0u32; 16384];
+    let mut dropped = [0u32; 16384];
+    let mut marks = [0u8; 2048];
+    lend_mended(
+        first,
+        second,
+        third,
+        buffers,
+        &mut kept,
+        &mut dropped,
+        &mut marks,
+    );
+    let reply = on_mended(
+        engine,
+        n,
+        words,
+        first,
+        second,
+        third,
+        &mut kept,
+        &mut dropped,
+        &mut marks,
+    );
+    take_mended(first, second, third, &kept, &dropped, &marks, buffers);
+    reply
+}
+
 // The reason, with the first places of scratch and list.
 fn on_scratch(
     engine: Engine,
@@ -306,6 +378,7 @@ pub fn run(
         Operation::Questions => with_pairs(engine, n, words, first, second, third, buffers),
         Operation::Completion => with_list(engine, n, words, first, second, buffers),
         Operation::Compact => with_links(engine, n, first, second, buffers),
+        Operation::Mend => with_mended(engine, n, words, first, second, third, buffers),
         Operation::Reason => with_scratch(engine, n, words, first, second, buffers),
         Operation::ReasonCheck => with_reason(engine, n, words, first, buffers),
         Operation::File => with_file(engine, first, buffers),

@@ -45,6 +45,17 @@ pub fn on_links(n: Numbers, list: &mut [u32], marks: &mut [u8]) -> Reply {
     second::compact(n.o, n.k, list, marks)
 }
 
+// The mending.
+pub fn on_mended(
+    n: Numbers,
+    words: &[u32],
+    kept: &mut [u32],
+    dropped: &mut [u32],
+    marks: &mut [u8],
+) -> Reply {
+    second::mend(n.o, n.k, words, kept, dropped, marks)
+}
+
 // The reason.
 pub fn on_scratch(n: Numbers, words: &[u32], scratch: &mut [u16], list: &mut [u16]) -> Reply {
     second::reason(n.o, n.k, words, n.set, n.x, n.y, n.sign, scratch, list)

@@ -13,6 +13,7 @@ use strumelka::strumelka_check_word;
 use strumelka::strumelka_clash;
 use strumelka::strumelka_compact;
 use strumelka::strumelka_completion;
+use strumelka::strumelka_mend;
 use strumelka::strumelka_question;
 use strumelka::strumelka_questions;
 use strumelka::strumelka_reason;
@@ -65,6 +66,17 @@ pub fn on_list(n: Numbers, words: &[u32], marks: &mut [u8], list: &mut [u32]) ->
 // The compaction.
 pub fn on_links(n: Numbers, list: &mut [u32], marks: &mut [u8]) -> Reply {
     reply_given(strumelka_compact(n.o, n.k, list, marks))
+}
+
+// The mending.
+pub fn on_mended(
+    n: Numbers,
+    words: &[u32],
+    kept: &mut [u32],
+    dropped: &mut [u32],
+    marks: &mut [u8],
+) -> Reply {
+    reply_given(strumelka_mend(n.o, n.k, words, kept, dropped, marks))
 }
 
 // The reason.

@@ -43,6 +43,7 @@ fn writes_second(operation: Operation) -> bool {
         Operation::Questions => true,
         Operation::Completion => true,
         Operation::Compact => true,
+        Operation::Mend => true,
         Operation::Reason => true,
         Operation::Ask => true,
         _ => false,
@@ -53,6 +54,7 @@ fn writes_second(operation: Operation) -> bool {
 fn writes_third(operation: Operation) -> bool {
     match operation {
         Operation::Questions => true,
+        Operation::Mend => true,
         _ => false,
     }
 }
@@ -144,6 +146,36 @@ pub fn lend_links(
 pub fn take_links(first: usize, second: usize, list: &[u32], marks: &[u8], buffers: &mut [u32]) {
     copy(numbers_from(list, 0, first), buffers, 0);
     from_bytes(bytes_between(marks, 0, second), buffers, SECOND_BUFFER);
+}
+
+// Kept words, dropped ones and marks, as they are in the three buffers.
+pub fn lend_mended(
+    first: usize,
+    second: usize,
+    third: usize,
+    buffers: &[u32],
+    kept: &mut [u32],
+    dropped: &mut [u32],
+    marks: &mut [u8],
+) {
+    copy(numbers_from(buffers, 0, first), kept, 0);
+    copy(numbers_from(buffers, SECOND_BUFFER, second), dropped, 0);
+    to_bytes(numbers_from(buffers, THIRD_BUFFER, third), marks);
+}
+
+// Takes kept words, dropped ones and marks back into the three buffers.
+pub fn take_mended(
+    first: usize,
+    second: usize,
+    third: usize,
+    kept: &[u32],
+    dropped: &[u32],
+    marks: &[u8],
+    buffers: &mut [u32],
+) {
+    copy(numbers_from(kept, 0, first), buffers, 0);
+    copy(numbers_from(dropped, 0, second), buffers, SECOND_BUFFER);
+    from_bytes(bytes_between(marks, 0, third), buffers, THIRD_BUFFER);
 }
 
 // A scratch and a list, as they are in the two buffers.

@@ -24,6 +24,7 @@ pub enum Operation {
     Completion,
     Clash,
     Compact,
+    Mend,
     Reason,
     ReasonCheck,
     File,
@@ -89,6 +90,9 @@ pub fn operation_of(name: &[u8]) -> Operation {
     if same_bytes(name, b"compact") {
         return Operation::Compact;
     }
+    if same_bytes(name, b"mend") {
+        return Operation::Mend;
+    }
     file_operation_of(name)
 }
 
@@ -121,6 +125,7 @@ fn letter_at(operation: Operation, at: usize) -> u8 {
         Operation::Completion => byte_at(b"nnwnmc", at),
         Operation::Clash => byte_at(b"nnwnm", at),
         Operation::Compact => byte_at(b"nncm", at),
+        Operation::Mend => byte_at(b"nnwccm", at),
         Operation::Reason => byte_at(b"nnwnnnnsr", at),
         Operation::ReasonCheck => byte_at(b"nnwnnnnr", at),
         Operation::File => byte_at(b"f", at),

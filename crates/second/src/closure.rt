@@ -194,7 +194,7 @@ pub fn empty_table() -> [u8; 1048576] {
     [0u8; 1048576]
 }
 
-// Fills an empty table with what the chosen words support.
+// Adds the chosen words to a table, and all that follows.
 pub fn close(o: usize, n: usize, words: &[u32], set: u32, support: &mut [u8; 1048576]) {
     close_cells(o, n, words, set, support);
 }

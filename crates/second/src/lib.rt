@@ -8,6 +8,7 @@ mod closure; // closure.rt: the table of supported statements
 mod rounds; // rounds.rt: the rounds of a scan
 mod pairs; // pairs.rt: a screenful of questions
 mod compaction; // compaction.rt: links that say nothing new
+mod mending; // mending.rt: links that do not clash
 mod search; // search.rt: the shortest reason
 mod path; // path.rt: whether a list is a path
 mod file; // file.rt: the net file
@@ -38,6 +39,7 @@ use file::set_of;
 use file::set_start;
 use file::start_of;
 use file::wrong_place;
+use mending::mend_words;
 use pairs::is_screenful;
 use pairs::mark_last;
 use pairs::write_answers;
@@ -194,6 +196,32 @@ pub fn compact(o: u32, k: u32, list: &mut [u32], marks: &mut [u8]) -> Reply {
     let count = sort(list);
     test_links(node(o), n, count, list);
     given(0, narrow(gather(count, list)), 0)
+}
+
+// The plain words, in their order, that do not clash with those kept before them; and each other one, with the node and the kind at which
+// it would clash.
+pub fn mend(
+    o: u32,
+    k: u32,
+    words: &[u32],
+    kept: &mut [u32],
+    dropped: &mut [u32],
+    marks: &mut [u8],
+) -> Reply {
+    let checked = plain_check(o, k, words);
+    if checked.number != 0 {
+        return checked;
+    }
+    let n = node_count(o, k);
+    if marks.len() < n {
+        return refused(5);
+    }
+    clear(marks, n);
+    if kept.len() < words.len() || dropped.len() / 3 < words.len() {
+        return given(8, narrow(words.len()), 0);
+    }
+    let done = mend_words(node(o), n, words, kept, dropped);
+    given(0, narrow(done.kept), narrow(done.dropped / 3))
 }
 
 // The shortest reason for the statement (x, y, sign).

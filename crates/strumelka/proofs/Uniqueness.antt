@@ -10,6 +10,7 @@ use Rattle.questions.specs.Table.{questionedAll, askedAllReply}
 use Rattle.clash.specs.Table.{clashedBy, clashedReply}
 use Rattle.completion.specs.Table.{completedBy, completedReply}
 use Rattle.compact.specs.Table.{compactedBy, compactedReply}
+use Rattle.mend.specs.Table.{mendedBy, mendedReply}
 use Rattle.reason.specs.Table.{reasoned, reasonedReply}
 use Rattle.reason_check.specs.Table.{verdict, verdictReply}
 
@@ -19,12 +20,15 @@ module _ {s : Reply} (r q : Reply) where
   gives-one : r ≡ s → q ≡ s → r ≡ q
   gives-one e f = e ∙ sym f
 
-  -- About one buffer besides, left as m and as l; and about two, the second left as c and as d.
+  -- About one buffer besides, left as m and as l; about two, the second left as c and as d; and about three, the third left as a and as b.
   leaves-one : {t : List ℕ} (m l : List ℕ) → (r ≡ s) × (m ≡ t) → (q ≡ s) × (l ≡ t) → (r ≡ q) × (m ≡ l)
   leaves-one m l e f = (gives-one (e .0) (f .0), e .1 ∙ sym (f .1))
 
   leaves-two : {t u : List ℕ} (m l c d : List ℕ) → (r ≡ s) × (m ≡ t) × (c ≡ u) → (q ≡ s) × (l ≡ t) × (d ≡ u) → (r ≡ q) × (m ≡ l) × (c ≡ d)
   leaves-two m l c d e f = (gives-one (e .0) (f .0), e .1 ∙ sym (f .1), e .2 ∙ sym (f .2))
+
+  leaves-three : {t u v : List ℕ} (m l c d a b : List ℕ) → (r ≡ s) × (m ≡ t) × (c ≡ u) × (a ≡ v) → (q ≡ s) × (l ≡ t) × (d ≡ u) × (b ≡ v) → (r ≡ q) × (m ≡ l) × (c ≡ d) × (a ≡ b)
+  leaves-three m l c d a b e f = (gives-one (e .0) (f .0), e .1 ∙ sym (f .1), e .2 ∙ sym (f .2), e .3 ∙ sym (f .3))
 
 -- `strumelka_check_word`.
 pub given-check-word-unique : (o k w : ℕ) (r q : Reply) → r ≡ wordReply (checkWord o k w) → q ≡ wordReply (checkWord o k w) → r ≡ q
@@ -84,3 +88,12 @@ pub given-compact-unique : (o k : ℕ) (list marks : List ℕ) (r q : Reply) (m 
     → (q ≡ compactedReply (compactedBy o k list marks .answer)) × (l ≡ compactedBy o k list marks .list) × (d ≡ compactedBy o k list marks .marks)
     → (r ≡ q) × (m ≡ l) × (c ≡ d)
 given-compact-unique o k list marks r q m l c d = leaves-two r q m l c d
+
+-- `strumelka_mend`: m and l the lists of kept words, c and d those of dropped words, a and b the marks left.
+pub given-mend-unique : (o k : ℕ) (ws kept dropped marks : List ℕ) (r q : Reply) (m l c d a b : List ℕ)
+    → (r ≡ mendedReply (mendedBy o k ws kept dropped marks .answer)) × (m ≡ mendedBy o k ws kept dropped marks .kept)
+    × (c ≡ mendedBy o k ws kept dropped marks .dropped) × (a ≡ mendedBy o k ws kept dropped marks .marks)
+    → (q ≡ mendedReply (mendedBy o k ws kept dropped marks .answer)) × (l ≡ mendedBy o k ws kept dropped marks .kept)
+    × (d ≡ mendedBy o k ws kept dropped marks .dropped) × (b ≡ mendedBy o k ws kept dropped marks .marks)
+    → (r ≡ q) × (m ≡ l) × (c ≡ d) × (a ≡ b)
+given-mend-unique o k ws kept dropped marks r q m l c d a b = leaves-three r q m l c d a b

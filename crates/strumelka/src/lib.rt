@@ -8,6 +8,7 @@ ghost use Rattle.questions.specs.Table.{questionedAll, askedAllReply};
 ghost use Rattle.clash.specs.Table.{clashedBy, clashedReply};
 ghost use Rattle.completion.specs.Table.{completedBy, completedReply};
 ghost use Rattle.compact.specs.Table.{compactedBy, compactedReply};
+ghost use Rattle.mend.specs.Table.{mendedBy, mendedReply};
 ghost use Rattle.reason.specs.Table.{reasoned, reasonedReply};
 ghost use Rattle.reason_check.specs.Table.{verdict, verdictReply};
 use check_word::check_word;
@@ -19,11 +20,13 @@ use library_answer::asked_given;
 use library_answer::clashed_given;
 use library_answer::compacted_given;
 use library_answer::completed_given;
+use library_answer::mended_given;
 use library_answer::reasoned_given;
 use library_answer::scanned_given;
 use library_answer::verdict_given;
 use library_reply::checked_given;
 use library_reply::word_given;
+use mend::mend;
 use net::Reply;
 use net::check_net;
 use question::ask_question;
@@ -140,6 +143,24 @@ pub extern "C" fn strumelka_compact(o: u32, k: u32, list: &mut [u32], marks: &mu
         × (now (marks .exit) ≡ compactedBy o k (now (list .entry)) (now (marks .entry)) .marks) ⌝ }
 {
     compacted_given(compact_list(o, k, list, marks))
+}
+
+// Mending the net of a list of plain words, with room for the words kept and, in threes, for those dropped.
+#[no_mangle]
+pub extern "C" fn strumelka_mend(
+    o: u32,
+    k: u32,
+    words: &[u32],
+    kept: &mut [u32],
+    dropped: &mut [u32],
+    marks: &mut [u8],
+) -> Reply
+    ensures { λ r. ⌜ (r ≡ mendedReply (mendedBy o k (now (words .entry)) (now (kept .entry)) (now (dropped .entry)) (now (marks .entry)) .answer))
+        × (now (kept .exit) ≡ mendedBy o k (now (words .entry)) (now (kept .entry)) (now (dropped .entry)) (now (marks .entry)) .kept)
+        × (now (dropped .exit) ≡ mendedBy o k (now (words .entry)) (now (kept .entry)) (now (dropped .entry)) (now (marks .entry)) .dropped)
+        × (now (marks .exit) ≡ mendedBy o k (now (words .entry)) (now (kept .entry)) (now (dropped .entry)) (now (marks .entry)) .marks) ⌝ }
+{
+    mended_given(mend(o, k, words, kept, dropped, marks))
 }
 
 // The shortest reason for x → y (`sign` 0) or x ↛ y (`sign` 1), with room for distances and for the list.

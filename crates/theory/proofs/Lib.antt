@@ -4,6 +4,7 @@ pub mod support
 pub mod machine
 pub mod completion
 pub mod compaction
+pub mod mending
 pub mod reason
 pub mod origins
 pub mod Readings

@@ -12,6 +12,8 @@ pub mod Origins
 pub mod Completion
 pub mod Sorting
 pub mod Compaction
+pub mod Clashes
+pub mod Mending
 pub mod Reasons
 pub mod Searches
 pub mod Checks
