@@ -62,13 +62,14 @@ extern "C" {
 #define STRUMELKA_ALL_ORIGINS 15u
 
 /* Buffer sizes for a net of o objects and k kinds, and of so many words, in elements; constant where these are.
- * MARKS, SCRATCH and DROPPED_LIST are what a call needs, and less is refused. REASON_LIST and COMPLETION_LIST are the most
- * that any net of that size can need: a shorter list is fine where the result fits it. */
+ * MARKS, SCRATCH, DROPPED_LIST and TABLE are what a call needs, and less is refused. REASON_LIST and COMPLETION_LIST are
+ * the most that any net of that size can need: a shorter list is fine where the result fits it. */
 #define STRUMELKA_MARKS(o, k) ((size_t)(o) + (size_t)(k))
 #define STRUMELKA_SCRATCH(o, k) (2u * STRUMELKA_MARKS(o, k))
 #define STRUMELKA_REASON_LIST(o, k) ((size_t)2 + 2u * (size_t)(k) + ((o) > 0 ? 1u : 0u))
 #define STRUMELKA_COMPLETION_LIST(o, k) (2u * STRUMELKA_MARKS(o, k) * (size_t)(k))
 #define STRUMELKA_DROPPED_LIST(words) ((size_t)3 * (size_t)(words))
+#define STRUMELKA_TABLE(o, k) (STRUMELKA_MARKS(o, k) * (size_t)(k))
 
 /* The bits of a byte of marks. */
 #define STRUMELKA_MARK_T 1u
@@ -98,6 +99,7 @@ extern "C" {
 #define STRUMELKA_NUMBER_BAD_QUESTION 4u
 #define STRUMELKA_NUMBER_BAD_SCREENFUL 10u
 #define STRUMELKA_NUMBER_SHORT_BUFFER 5u
+#define STRUMELKA_NUMBER_BAD_TABLE 13u
 #define STRUMELKA_NUMBER_BUDGET_SPENT 6u
 #define STRUMELKA_NUMBER_NOTHING_FOUND 7u
 #define STRUMELKA_NUMBER_SHORT_LIST 8u
@@ -217,6 +219,30 @@ struct strumelka_answer strumelka_mend(
     uint32_t o, uint32_t k, const uint32_t *words, size_t words_len,
     uint32_t *kept, size_t kept_len, uint32_t *dropped, size_t dropped_len,
     uint8_t *marks, size_t marks_len);
+
+/* The valuation of the net, a model of its links in which a statement holds exactly if the net supports it. Its elements
+ * are the objects and a witness for each kind, in node order: the element of node x has the row of k bytes from x * k on,
+ * and the byte of kind y is x * k + (y - o).
+ *   0            the byte of every node and kind = STRUMELKA_ANSWER_NONE, _YES, _NO or _BOTH, as strumelka_question
+ *                answers; bytes of table after them unchanged; the first o + k bytes of marks are zero
+ *   1, 2, 15, 3  as in strumelka_check_net
+ *   5            marks_len is below STRUMELKA_MARKS(o, k); table and marks unchanged
+ *   13           table_len is below STRUMELKA_TABLE(o, k); table and marks unchanged */
+struct strumelka_answer strumelka_valuation(
+    uint32_t o, uint32_t k, const uint32_t *words, size_t words_len, uint32_t set,
+    uint8_t *table, size_t table_len, uint8_t *marks, size_t marks_len);
+
+/* The test of a statement in a valuation from anybody: node x is of kind y (sign STRUMELKA_IS), or is not
+ * (STRUMELKA_IS_NOT). That of an object is read off its byte for y. That of a kind is about every element: "is" holds where
+ * each that is of x is of y, and each that is not of y is not of x; "is not" holds where each that is of one of them is
+ * not of the other. No net is read and nothing is written.
+ *   0   first = 1 if it holds, 0 if not
+ *   1   o + k is over STRUMELKA_NODE_LIMIT, added without wrapping
+ *   4   x is no node, y is no kind, or sign is neither of the two
+ *   13  table_len is below STRUMELKA_TABLE(o, k), or one of that many bytes is over STRUMELKA_ANSWER_BOTH */
+struct strumelka_answer strumelka_satisfies(
+    uint32_t o, uint32_t k, const uint8_t *table, size_t table_len,
+    uint32_t x, uint32_t y, uint32_t sign);
 
 /* The shortest reason for a statement: node x is of kind y (sign STRUMELKA_IS), or is not (STRUMELKA_IS_NOT). The list
  * begins with the sizes of the path's first and second part, and the nodes of both follow.

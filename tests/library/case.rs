@@ -13,6 +13,18 @@ pub struct Case<'a> {
 }
 
 impl<'a> Case<'a> {
+    /// The case of an operation that is in the table, with what is given for each kind of field.
+    pub fn filled(
+        operations: &'a [Operation],
+        name: &str,
+        fill: impl Fn(Field) -> Vec<u32>,
+    ) -> Case<'a> {
+        let operation = operations.iter().find(|it| it.name == name);
+        let operation = operation.expect("the operation is in the table");
+        let values = operation.fields.iter().map(|&field| fill(field)).collect();
+        Case { operation, values }
+    }
+
     /// The case that stands in a line, if all of the line is one.
     pub fn read(operations: &'a [Operation], line: &str) -> Option<Case<'a>> {
         let spaced = line.replace('[', " [ ").replace(']', " ] ");

@@ -1,7 +1,7 @@
 //! Random cases on a net: right and wrong numbers, lists that fit, are too short or too long, all full of garbage. How a field is
 //! drawn depends on its kind alone, so that an operation of known fields is drawn as soon as it stands in the table.
 
-use crate::call::run;
+use crate::call::{run, Outcome};
 use crate::case::Case;
 use crate::fields::Field;
 use crate::nets::{draw_illegal, draw_origin, plain, word, Net, ALL_ORIGINS};
@@ -25,6 +25,13 @@ pub fn draw_case<'a>(
     if operation.fields.contains(&Field::Links) && net.words.len() < 20 && random.chance(25) {
         let list = completed(net, operations);
         case.set(Field::Links, list);
+    }
+    if operation.fields.contains(&Field::Model) && net.nodes() < 12 && random.chance(60) {
+        let mut table = run_on(net, operations, "valuation", net.table_size()).lists[0].clone();
+        table = spoilt(random, table);
+        let behind = random.pick(&[0, 0, 0, 1, 5]);
+        table.extend(garbage(random, Field::Model, behind));
+        case.set(Field::Model, table);
     }
     fit_to_pairs(random, &mut case);
     fit_to_result(random, net, &mut case);
@@ -62,6 +69,15 @@ fn draw_field(random: &mut Random, net: &Net, field: Field) -> Vec<u32> {
             let size = draw_room(random, 3 * net.words.len());
             garbage(random, field, size)
         }
+        Field::Table => {
+            let size = draw_room(random, net.table_size());
+            garbage(random, field, size)
+        }
+        Field::Model => {
+            let size = draw_room(random, net.table_size()).min(field.shape().most);
+            let values = (0..size).map(|_| random.below(4) as u32).collect();
+            spoilt(random, values)
+        }
         Field::Answers | Field::List | Field::Reason | Field::Path => Vec::new(),
         Field::File => draw_file(random, net),
         Field::Byte => vec![random.below(256) as u32],
@@ -77,23 +93,34 @@ fn draw_plain(random: &mut Random, net: &Net) -> Vec<u32> {
     words
 }
 
-/// All that a net of a few nodes supports, in descending order; nothing for another.
-fn completed(net: &Net, operations: &[Operation]) -> Vec<u32> {
-    let operation = operations.iter().find(|it| it.name == "completion");
-    let operation = operation.expect("the archive completes nets");
-    let fill = |&field: &Field| match field {
+/// The values of a table, now and then with some changed, one of them perhaps into a byte that is no value.
+fn spoilt(random: &mut Random, mut table: Vec<u32>) -> Vec<u32> {
+    if !table.is_empty() && random.chance(40) {
+        for _ in 0..random.within(1, 3) {
+            let any = random.below(256) as u32;
+            let at = random.below(table.len());
+            table[at] = random.pick(&[0, 1, 2, 3, 0, 1, 2, 3, 4, any]);
+        }
+    }
+    table
+}
+
+/// What an operation of the archive gives for the net with all its origins, where its other list has so many places.
+fn run_on(net: &Net, operations: &[Operation], name: &str, places: usize) -> Outcome {
+    let case = Case::filled(operations, name, |field| match field {
         Field::Objects => vec![net.o],
         Field::Kinds => vec![net.k],
         Field::Words => net.words.clone(),
         Field::Set => vec![ALL_ORIGINS],
         Field::Marks => vec![0; net.nodes()],
-        _ => vec![0; 200],
-    };
-    let case = Case {
-        operation,
-        values: operation.fields.iter().map(fill).collect(),
-    };
-    let outcome = run(&case, 0).expect("the archive keeps to its memory");
+        _ => vec![0; places],
+    });
+    run(&case, 0).expect("the archive keeps to its memory")
+}
+
+/// All that a net of a few nodes supports, in descending order; nothing for another.
+fn completed(net: &Net, operations: &[Operation]) -> Vec<u32> {
+    let outcome = run_on(net, operations, "completion", 200);
     let size = match outcome.answer.number {
         0 => outcome.answer.first as usize,
         _ => 0,

@@ -19,6 +19,8 @@ pub enum Field {
     List,
     Kept,
     Dropped,
+    Table,
+    Model,
     Scratch,
     Reason,
     Path,
@@ -52,7 +54,7 @@ const fn shape(name: &'static str, field: Field, width: usize, most: usize, lent
     }
 }
 
-static SHAPES: [Shape; 22] = [
+static SHAPES: [Shape; 24] = [
     number("o", Field::Objects),
     number("k", Field::Kinds),
     shape("words", Field::Words, 4, 16_384, false),
@@ -70,6 +72,8 @@ static SHAPES: [Shape; 22] = [
     shape("list", Field::List, 4, 16_384, true),
     shape("kept", Field::Kept, 4, 16_384, true),
     shape("dropped", Field::Dropped, 4, 16_384, true),
+    shape("table", Field::Table, 1, 32_768, true),
+    shape("model", Field::Model, 1, 32_768, false),
     shape("scratch", Field::Scratch, 2, 4_096, true),
     shape("reason", Field::Reason, 2, 4_096, true),
     shape("path", Field::Path, 2, 4_096, false),

@@ -1,11 +1,11 @@
-//! Calls with more words than a case can have: the largest list that is allowed, and one word more.
+//! Calls with more words than a case can have: the largest list that is allowed, and one word more. And the largest table of a valuation.
 
 use crate::answer::Answer;
 use crate::call::{run, Outcome};
 use crate::case::Case;
 use crate::draw::draw_case;
 use crate::fields::Field;
-use crate::nets::{draw_origin, plain, random_net, word, Net, ALL_ORIGINS, WORD_LIMIT};
+use crate::nets::{draw_origin, plain, random_net, word, Net, ALL_ORIGINS, NODE_LIMIT, WORD_LIMIT};
 use crate::operations::{Effort, Operation};
 use crate::random::Random;
 use crate::tally::Tally;
@@ -64,26 +64,23 @@ pub fn calls_at_limit(
             hold(&whole, &expected, tally)?;
         }
     }
-    mend_clashing(operations, tally)
+    mend_clashing(operations, tally)?;
+    fill_largest_table(operations, tally)
 }
 
 /// As many words as are allowed, none of which can be kept: what is kept is read again for every word, so that others would take
 /// too long. With a place less the call is number 8.
 fn mend_clashing(operations: &[Operation], tally: &mut Tally) -> Result<(), String> {
-    let operation = operations.iter().find(|it| it.name == MEND);
-    let operation = operation.expect("the archive mends nets");
     let clashing = word(0, 0, 1);
     for missing in [0, 1] {
-        let fill = |&field: &Field| match field {
+        let case = Case::filled(operations, MEND, |field| match field {
             Field::Objects => vec![0],
             Field::Kinds => vec![1],
             Field::Plain => vec![clashing; WORD_LIMIT],
             Field::Kept => vec![7; WORD_LIMIT],
             Field::Dropped => vec![8; 3 * WORD_LIMIT - missing],
             _ => vec![9; 2],
-        };
-        let values: Vec<Vec<u32>> = operation.fields.iter().map(fill).collect();
-        let case = Case { operation, values };
+        });
         let limit = WORD_LIMIT as u32;
         let (answer, dropped) = match missing {
             0 => (
@@ -94,6 +91,67 @@ fn mend_clashing(operations: &[Operation], tally: &mut Tally) -> Result<(), Stri
         };
         let lists = vec![vec![7; WORD_LIMIT], dropped, vec![0, 9]];
         hold(&case, &Outcome { answer, lists }, tally)?;
+    }
+    Ok(())
+}
+
+/// A net of kinds alone, as many as are allowed: each of them is the last, and the last is not the first, so that the first is no kind
+/// and no kind is the first. Its table with a byte to spare, and with one too few; then statements in what was filled.
+fn fill_largest_table(operations: &[Operation], tally: &mut Tally) -> Result<(), String> {
+    const LAST: usize = NODE_LIMIT - 1;
+    let mut words: Vec<u32> = (0..NODE_LIMIT).map(|p| word(p, LAST, 0)).collect();
+    words.push(word(LAST, 0, 1));
+    let value = |x: usize, y: usize| {
+        let (yes, no) = (y == x || y == LAST, x == 0 || y == 0);
+        yes as u32 + 2 * no as u32
+    };
+    let size = NODE_LIMIT * NODE_LIMIT;
+    let values = (0..size).map(|at| value(at / NODE_LIMIT, at % NODE_LIMIT));
+    let mut filled: Vec<u32> = values.collect();
+    filled.push(200);
+    for length in [size + 1, size - 1] {
+        let case = Case::filled(operations, "valuation", |field| match field {
+            Field::Objects => vec![0],
+            Field::Kinds => vec![NODE_LIMIT as u32],
+            Field::Words => words.clone(),
+            Field::Set => vec![ALL_ORIGINS],
+            Field::Table => vec![200; length],
+            _ => vec![9; NODE_LIMIT + 1],
+        });
+        let expected = if length < size {
+            Outcome::unchanged(&case, Answer::new(13, 0, 0))
+        } else {
+            let mut marks = vec![0; NODE_LIMIT];
+            marks.push(9);
+            Outcome {
+                answer: Answer::new(0, 0, 0),
+                lists: vec![filled.clone(), marks],
+            }
+        };
+        hold(&case, &expected, tally)?;
+    }
+    let mut bad = filled.clone();
+    bad[size - 1] = 4;
+    let short = &filled[..size - 1];
+    let tests: [(&[u32], usize, usize, usize, Answer); 7] = [
+        (&filled, 5, LAST, 0, Answer::new(0, 1, 0)),
+        (&filled, 5, 0, 1, Answer::new(0, 1, 0)),
+        (&filled, 0, LAST, 1, Answer::new(0, 1, 0)),
+        (&filled, 5, 6, 0, Answer::new(0, 0, 0)),
+        (&filled, 5, LAST, 1, Answer::new(0, 0, 0)),
+        (&bad, 5, LAST, 0, Answer::new(13, 0, 0)),
+        (short, 5, LAST, 0, Answer::new(13, 0, 0)),
+    ];
+    for (model, x, y, sign, answer) in tests {
+        let case = Case::filled(operations, "satisfies", |field| match field {
+            Field::Objects => vec![0],
+            Field::Kinds => vec![NODE_LIMIT as u32],
+            Field::Model => model.to_vec(),
+            Field::Node => vec![x as u32],
+            Field::Kind => vec![y as u32],
+            _ => vec![sign as u32],
+        });
+        hold(&case, &Outcome::unchanged(&case, answer), tally)?;
     }
     Ok(())
 }

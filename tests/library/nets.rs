@@ -2,6 +2,7 @@
 
 use crate::random::Random;
 
+pub const NODE_LIMIT: usize = 1024;
 pub const WORD_LIMIT: usize = 2_097_152;
 
 /// A word is its origin times this number, and its plain word.
@@ -20,7 +21,12 @@ pub struct Net {
 impl Net {
     /// The number of nodes, where the net is not too large.
     pub fn nodes(&self) -> usize {
-        (self.o as usize + self.k as usize).min(1024)
+        (self.o as usize + self.k as usize).min(NODE_LIMIT)
+    }
+
+    /// The bytes of its valuation's table, where the net is not too large.
+    pub fn table_size(&self) -> usize {
+        self.nodes() * (self.k as usize).min(NODE_LIMIT)
     }
 
     /// A node that a chosen link of the sign leads to from a node: at the link's head, or at its tail where `back` holds.

@@ -57,6 +57,10 @@ struct operation {
       NUMBER(0), NUMBER(1), WORDS(2), BYTES(3))                                                 \
     _(mend, "o k plain kept dropped marks", "0 1 2 3 5 8", EVERY_WORD,                          \
       NUMBER(0), NUMBER(1), WORDS(2), WORDS(3), WORDS(4), BYTES(5))                             \
+    _(valuation, "o k words set table marks", "0 1 2 15 3 5 13", EVERY_NODE,                    \
+      NET, BYTES(4), BYTES(5))                                                                  \
+    _(satisfies, "o k model node kind sign", "0=0 0=1 1 4 13", ONCE,                            \
+      NUMBER(0), NUMBER(1), BYTES(2), NUMBER(3), NUMBER(4), NUMBER(5))                          \
     _(reason, "o k words set node kind sign scratch reason", "0 1 2 15 3 4 5 7 8", ONCE,        \
       NET, NUMBER(4), NUMBER(5), NUMBER(6), HALVES(7), HALVES(8))                               \
     _(reason_check, "o k words set node kind sign path", "0=0 0=1 1 2 15 3 4", ONCE,            \

@@ -1,5 +1,5 @@
-//! Rules (3.1) to (3.5) as they stand in the request, closed over a small net by trying every rule on every pair. What a call answers
-//! is held to them by code that the kit did not compile.
+//! Rules (3.1) to (3.5) as they stand in the request, closed over a small net by trying every rule on every pair, and the conditions of
+//! the report's section 6. What a call answers is held to them by code that the kit did not compile.
 
 use std::collections::BTreeSet;
 
@@ -76,6 +76,22 @@ fn mended(o: usize, nodes: usize, words: &[u32]) -> (Vec<u32>, Vec<u32>) {
     (kept, dropped)
 }
 
+/// Whether a statement holds in a valuation of that shape, by (6.1) to (6.4) of the report.
+fn satisfied(o: usize, nodes: usize, model: &[u32], x: usize, y: usize, sign: usize) -> bool {
+    let value = |d: usize, p: usize| model[d * (nodes - o) + p - o];
+    let is_true = |d, p| value(d, p) & 1 != 0;
+    let is_false = |d, p| value(d, p) & 2 != 0;
+    let mut elements = 0..nodes;
+    match (x < o, sign) {
+        (true, 0) => is_true(x, y),
+        (true, _) => is_false(x, y),
+        (false, 0) => elements
+            .all(|d| (is_true(d, y) || !is_true(d, x)) && (is_false(d, x) || !is_false(d, y))),
+        (false, _) => elements
+            .all(|d| (is_false(d, y) || !is_true(d, x)) && (is_false(d, x) || !is_true(d, y))),
+    }
+}
+
 /// The statements that the net of a small case supports.
 struct Supported {
     o: usize,
@@ -128,6 +144,19 @@ pub fn held_to_rules(case: &Case, found: &Outcome) -> Result<bool, String> {
                 && found.answer.second as usize == dropped.len() / 3
                 && found.lists[0].starts_with(&kept)
                 && found.lists[1].starts_with(&dropped)
+        }
+        "valuation" => {
+            let kinds = (o..nodes).collect::<Vec<usize>>();
+            let cells = (0..nodes).flat_map(|x| kinds.iter().map(move |&y| (x, y)));
+            let words = cells.map(|(x, y)| net.word(x as u32, y as u32));
+            words
+                .zip(&found.lists[0])
+                .all(|(word, &byte)| word == Some(byte))
+        }
+        "satisfies" => {
+            let [x, y, sign] = [Field::Node, Field::Kind, Field::Sign].map(number);
+            let model = case.values_of(Field::Model);
+            found.answer.first == satisfied(o, nodes, model, x, y, sign) as u32
         }
         _ => return Ok(false),
     };

@@ -40,6 +40,9 @@ static uint32_t links[COUNT(filled)];
 static uint32_t kept[COUNT(words)];
 static uint32_t dropped[STRUMELKA_DROPPED_LIST(COUNT(words))];
 
+/* The table of the net's valuation, which the test of a statement then reads. */
+static uint8_t table[STRUMELKA_TABLE(OBJECTS, KINDS)];
+
 static uint8_t marks[OBJECTS + KINDS];
 static uint32_t list[4096];
 static uint16_t scratch[2 * (OBJECTS + KINDS)];
@@ -70,6 +73,8 @@ static const struct {
     {"plain", {0, words, COUNT(words)}},
     {"kept", {0, kept, COUNT(kept)}},
     {"dropped", {0, dropped, COUNT(dropped)}},
+    {"table", {0, table, COUNT(table)}},
+    {"model", {0, table, COUNT(table)}},
 };
 
 /* The call, and what it answers. */

@@ -23,6 +23,7 @@ use Rattle.completion.specs.declared.Completed.the-variants as completed
 use Rattle.compact.specs.Table.{CompactionOutcome, compactedReply}
 use Rattle.mend.specs.Table.{MendingOutcome, mendedReply}
 use Rattle.reason.specs.Table.{ReasonOutcome, reasonedReply}
+use Rattle.valuation.specs.Table.{ValuationOutcome, filledReply}
 use Rattle.library_reply.specs.Fits.{Fits}
 use Rattle.library_reply.proofs.Fitting.{either, fits, bare, table-fits}
 
@@ -49,6 +50,10 @@ mendingGives s = mendedReply (s .answer)
 -- The reply of what a reason leaves.
 abbrev pub reasonGives : ReasonOutcome → Reply
 reasonGives s = reasonedReply (s .answer)
+
+-- The reply of what a valuation leaves.
+abbrev pub valuationGives : ValuationOutcome → Reply
+valuationGives s = filledReply (s .answer)
 
 -- ── the clash test ──
 

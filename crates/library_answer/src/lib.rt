@@ -1,4 +1,4 @@
-// The answers of scan, question, screenful of questions, clash test, completion, compaction, mending, reason and reason check, each as a reply.
+// The answers of scan, question, screenful of questions, clash test, completion, compaction, mending, reason, reason check, valuation and its test, each as a reply.
 ghost use mathlib.Core.Path.{_≡_};
 ghost use Rattle.scan.specs.Table.{scanReply};
 ghost use Rattle.question.specs.Table.{askedReply};
@@ -9,6 +9,8 @@ ghost use Rattle.compact.specs.Table.{compactedReply};
 ghost use Rattle.mend.specs.Table.{mendedReply};
 ghost use Rattle.reason.specs.Table.{reasonedReply};
 ghost use Rattle.reason_check.specs.Table.{verdictReply};
+ghost use Rattle.valuation.specs.Table.{filledReply};
+ghost use Rattle.satisfies.specs.Table.{testedReply};
 ghost use Rattle.library_reply.specs.Fits.{Fits};
 use clash::Clashed;
 use compact::CompactedList;
@@ -22,7 +24,9 @@ use question::answer_number;
 use questions::AskedAll;
 use reason::Reasoned;
 use reason_check::Verdict;
+use satisfies::Tested;
 use scan::Scanned;
+use valuation::Filled;
 
 // The reply of a scan.
 pub fn scanned_given(scanned: Scanned) -> Reply
@@ -121,5 +125,28 @@ pub fn verdict_given(verdict: Verdict) -> Reply
         Verdict::Holds => reply_of(0, 1, 0),
         Verdict::Fails => reply_of(0, 0, 0),
         Verdict::Refused(refusal) => refusal_given(refusal),
+    }
+}
+
+// The reply of a valuation.
+pub fn filled_given(filled: Filled) -> Reply
+    ensures { λ r. ⌜ r ≡ filledReply filled ⌝ }
+{
+    match filled {
+        Filled::Done => reply_of(0, 0, 0),
+        Filled::ShortTable => reply_of(13, 0, 0),
+        Filled::Refused(refusal) => refusal_given(refusal),
+    }
+}
+
+// The reply of the test of a statement in a valuation.
+pub fn tested_given(tested: Tested) -> Reply
+    ensures { λ r. ⌜ r ≡ testedReply tested ⌝ }
+{
+    match tested {
+        Tested::Holds => reply_of(0, 1, 0),
+        Tested::Fails => reply_of(0, 0, 0),
+        Tested::BadTable => reply_of(13, 0, 0),
+        Tested::Refused(refusal) => refusal_given(refusal),
     }
 }

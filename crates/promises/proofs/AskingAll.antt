@@ -24,6 +24,7 @@ use Rattle.question.specs.Table.{QuestionOutcome, questionOutcome, questionClau
 use Rattle.question.specs.declared.Answer.{Answer}
 use Rattle.question.specs.declared.Answer.the-variants.{None, Yes, No, Both}
 use Rattle.question.specs.declared.Asked.the-variants as asked
+use Rattle.question.proofs.Bytes.{answer-low}
 use Rattle.questions.specs.Pairs.{pairsIn, subjectAt, kindAt, GoodPairs}
 use Rattle.questions.specs.Table.{QuestionsOutcome, askedByte, answerByte, marksAfter, answersFrom, marksFrom, askedAllReply, questionsDone, questionedAll}
 use Rattle.questions.specs.declared.AskedAll.{AskedAll}
@@ -39,7 +40,7 @@ use Rattle.promises.proofs.Demand2.{answer-says}
 use Rattle.promises.proofs.Tests.{chosen-of}
 use Rattle.promises.proofs.PlainQuestions.{questions-0}
 
--- The byte of an answer says what the answer says, and is none for a bad pair.
+-- The byte of an answer says what the answer says.
 byte-says : (a : Answer) (s : Sign) → byteSays (answerNumber a) s ≡ says a s
 byte-says None is = refl
 byte-says None isnt = refl
@@ -50,16 +51,10 @@ byte-says No isnt = refl
 byte-says Both is = refl
 byte-says Both isnt = refl
 
-small-number : (a : Answer) → answerNumber a ≤ 3
-small-number None = omega arith
-small-number Yes = omega arith
-small-number No = omega arith
-small-number Both = omega arith
-
 -- A test between 255 and an answer's number.
 told : (bad : Bool) (a : Answer) → (cond bad 255 (answerNumber a) ≡ 255) ↔ (bad ≡ true)
 told true a = ((λ e. refl), λ e. refl)
-told false a = ((λ e. absurd (omega (arith, e, small-number a))), λ e. contradiction e)
+told false a = ((λ e. absurd (omega (arith, e, answer-low a))), λ e. contradiction e)
 
 module _ (o k : ℕ) (ws : List ℕ) (set : ℕ) where
   -- The number of nodes, and the plain words.

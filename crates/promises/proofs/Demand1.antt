@@ -26,6 +26,11 @@ use Rattle.mend.specs.Table.{mendingTable, mendingDone, mendedBy}
 use Rattle.reason.specs.Table.{reasonTable, reasonDone, reasoned}
 use Rattle.reason_check.specs.Table.{checkTable, checkDone, verdict}
 use Rattle.reason_check.specs.declared.Verdict.the-variants.{Holds, Fails}
+use Rattle.theory.specs.Valuations.{satisfies}
+use Rattle.valuation.specs.Values.{ownValues}
+use Rattle.valuation.specs.Table.{valuationTable, valuationDone, filledBy}
+use Rattle.satisfies.specs.Table.{satisfiesTable, satisfiesDone, testedBy}
+use Rattle.satisfies.specs.declared.Tested.the-variants as tested
 use Rattle.promises.specs.Tables.{Obeys}
 use Rattle.net.specs.Table.{netTable, netDone}
 use Rattle.scan.specs.Table.{scanTable, scanDone}
@@ -33,7 +38,7 @@ use Rattle.question.specs.Table.{questionTable, questionDone}
 use Rattle.questions.specs.Table.{questionsTable, questionsDone, questionedAll}
 use Rattle.netfile.specs.Table.{readFrom, fileTable, fileDone}
 use Rattle.netfile.proofs.Called.{file-called}
-use Rattle.promises.specs.Numbers.{wordNumber, checkedNumber, scanNumber, questionNumber, clashNumber, completionNumber, reasonNumber, verdictNumber, questionsNumber, compactionNumber, mendingNumber, fileNumber}
+use Rattle.promises.specs.Numbers.{wordNumber, checkedNumber, scanNumber, questionNumber, clashNumber, completionNumber, reasonNumber, verdictNumber, questionsNumber, compactionNumber, mendingNumber, valuationNumber, satisfiesNumber, fileNumber}
 use Rattle.promises.specs.Engines.{ours}
 use Rattle.promises.specs.Demand1.{Demand1}
 use Rattle.promises.proofs.Deciding.{obeys}
@@ -53,6 +58,10 @@ clash-found o k ws x (suc j) e =
 verdict-done : (q : Bool) → verdictNumber (cond q Holds Fails) ≡ 0
 verdict-done true = refl
 verdict-done false = refl
+
+tested-done : (q : Bool) → satisfiesNumber (cond q tested.Holds tested.Fails) ≡ 0
+tested-done true = refl
+tested-done false = refl
 
 -- The test of a word obeys its table: numbers 1 and 3, or 0.
 pub word-obeys : (o k w : ℕ) → Obeys wordNumber (wordTable o k w) Legal (checkWord o k w)
@@ -108,6 +117,12 @@ module _ (o k : ℕ) (ws : List ℕ) (set : ℕ) where
       obeys questionsNumber _ _ (record { numbered = (refl, (refl, (refl, (refl, (refl, (refl, tt)))))); once = refl; nonzero = refl; zero = λ h. refl }) _
       refl
 
+  -- The valuation: numbers 1, 2, 15, 3, 5 and 13, or 0.
+  pub valuation-obeys : (t m : List ℕ) → Obeys valuationNumber (valuationTable o k ws set t m) (valuationDone (ownValues o k (chosen set ws)) t m (o + k)) (filledBy o k ws set t m)
+  valuation-obeys t m =
+      obeys valuationNumber _ _ (record { numbered = (refl, (refl, (refl, (refl, (refl, (refl, tt)))))); once = refl; nonzero = refl; zero = λ h. refl }) _
+      refl
+
 -- The compaction: numbers 1 to 3 and 5, or 0.
 pub compaction-obeys : (o k : ℕ) (ws m : List ℕ) → Obeys compactionNumber (compactionTable o k ws m) (compactionDone (compacted o k ws) ws m (o + k)) (compactedBy o k ws m)
 compaction-obeys o k ws m =
@@ -119,6 +134,12 @@ pub mending-obeys : (o k : ℕ) (ws kept dropped m : List ℕ)
     → Obeys mendingNumber (mendingTable o k ws kept dropped m) (mendingDone (keptFrom o k [] ws) (droppedFrom o k [] ws) kept dropped m (o + k)) (mendedBy o k ws kept dropped m)
 mending-obeys o k ws kept dropped m =
     obeys mendingNumber _ _ (record { numbered = (refl, (refl, (refl, (refl, (refl, tt))))); once = refl; nonzero = refl; zero = λ h. refl }) _
+    refl
+
+-- The test of a statement in a valuation: numbers 1, 4 and 13, or 0.
+pub satisfies-obeys : (o k : ℕ) (t : List ℕ) (x y sign : ℕ) → Obeys satisfiesNumber (satisfiesTable o k t x y sign) (satisfiesDone o k t x y sign) (testedBy o k t x y sign)
+satisfies-obeys o k t x y sign =
+    obeys satisfiesNumber _ _ (record { numbered = (refl, (refl, (refl, tt))); once = refl; nonzero = refl; zero = λ h. tested-done (satisfies o k t x y (signAt sign)) }) _
     refl
 
 -- The file reader: 9, or 0.
@@ -141,4 +162,6 @@ demand-1 = record {
   questions = questions-obeys;
   compaction = compaction-obeys;
   mending = mending-obeys;
+  valuation = valuation-obeys;
+  satisfies = satisfies-obeys;
 }

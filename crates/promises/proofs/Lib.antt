@@ -14,7 +14,10 @@ pub mod PlainAsked
 pub mod PlainQuestions
 pub mod AskingAll
 pub mod PlainLists
+pub mod PlainValued
+pub mod Valuing
 pub mod Reordered
+pub mod ReorderedValues
 pub mod NetAnswers
 pub mod Demand3
 pub mod FromKind

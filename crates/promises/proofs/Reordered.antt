@@ -54,7 +54,7 @@ module _ (ws vs : List ℕ) (to : AllIn ws vs) where
 
 module _ (o k : ℕ) (ws vs : List ℕ) (n : Net o k ws) (p : Net o k vs) (to : AllIn ws vs) (from : AllIn vs ws) where
   -- A full scan from a node leaves the same marks.
-  full-same : (x : ℕ) → x < o + k → fullMarks o k ws x ≡ fullMarks o k vs x
+  pub full-same : (x : ℕ) → x < o + k → fullMarks o k ws x ≡ fullMarks o k vs x
   full-same x h = ap (λ (s : Scan). s .marks) (rounds-same o k ws vs n p to from x (fullBudget (o + k)) h)
 
   -- So the rows of the completion are the same.

@@ -37,8 +37,11 @@ use Rattle.net.proofs.Good.{good-pair, good-statement}
 use Rattle.clash.specs.Table.{clashSearch, nowhere}
 use Rattle.questions.specs.Pairs.{pairsIn, pairLimit}
 use Rattle.questions.specs.Table.{badPairs}
+use Rattle.satisfies.specs.Table.{badTable}
+use Rattle.satisfies.proofs.Exactly.{bad-table-exactly}
 use Rattle.promises.specs.Engines.{Read}
 use Rattle.theory.specs.Clashes.{ClashAt}
+use Rattle.theory.specs.Valuations.{Valued}
 use Rattle.promises.proofs.Clashes.{no-clash-exactly}
 
 module _ (o k : ℕ) (ws : List ℕ) where
@@ -137,6 +140,10 @@ module _ (o k : ℕ) (ws : List ℕ) where
 
   pub clause-5-scratch : (d : List ℕ) → Decides (ltb (length d) ((o + k) + (o + k))) (length d < 2 * (o + k))
   clause-5-scratch d = decides-same _ (decides-below (length d) ((o + k) + (o + k))) (λ h. omega arith) (λ h. omega arith)
+
+-- Clause 13 of the test of a statement: what is lent is no table for n elements and k kinds.
+pub clause-13 : (n k : ℕ) (t : List ℕ) → Decides (badTable n k t) (Valued n k t → ⊥)
+clause-13 n k t = decides-not _ (bad-table-exactly n k t)
 
 module _ (cs : List Command) (ws m : List ℕ) (budget c : ℕ) (count : Count cs ws m c) where
   -- A scan ends exactly if its count is within the budget.

@@ -26,6 +26,10 @@ use Rattle.reason.specs.Table.{ReasonOutcome, reasonOutcome, reasoned}
 use Rattle.reason.specs.declared.Reasoned.{Reasoned}
 use Rattle.reason_check.specs.Table.{verdict}
 use Rattle.reason_check.specs.declared.Verdict.{Verdict}
+use Rattle.valuation.specs.Table.{ValuationOutcome, valuationOutcome, filledBy}
+use Rattle.valuation.specs.declared.Filled.{Filled}
+use Rattle.satisfies.specs.Table.{testedBy}
+use Rattle.satisfies.specs.declared.Tested.{Tested}
 use Rattle.netfile.specs.Contents.{contentsOf, bodiesOf}
 use Rattle.netfile.specs.declared.Contents.{Contents}
 use Rattle.ask_text.specs.Text.{textOf}
@@ -87,6 +91,17 @@ module _ (o k : ℕ) (ws : List ℕ) (set : ℕ) where
   -- The reason check, which is lent nothing to write to.
   pub check-unique : (x y sign : ℕ) (list : List ℕ) (r q : Verdict) → r ≡ verdict o k ws set x y sign list → q ≡ verdict o k ws set x y sign list → r ≡ q
   check-unique x y sign list r q e f = both-are r q e f
+
+  -- The valuation: m and l the tables, c and d the marks left.
+  pub valuation-unique : (table marks : List ℕ) (r q : Filled) (m l c d : List ℕ)
+      → valuationOutcome r m c ≡ filledBy o k ws set table marks → valuationOutcome q l d ≡ filledBy o k ws set table marks → (r ≡ q) × (m ≡ l) × (c ≡ d)
+  valuation-unique table marks r q m l c d e f =
+      let p = both-are (valuationOutcome r m c) (valuationOutcome q l d) e f in
+      (ap (λ (s : ValuationOutcome). s .answer) p, ap (λ (s : ValuationOutcome). s .table) p, ap (λ (s : ValuationOutcome). s .marks) p)
+
+-- The test of a statement in a valuation, which is lent nothing to write to.
+pub satisfies-unique : (o k : ℕ) (table : List ℕ) (x y sign : ℕ) (r q : Tested) → r ≡ testedBy o k table x y sign → q ≡ testedBy o k table x y sign → r ≡ q
+satisfies-unique o k table x y sign r q e f = both-are r q e f
 
 -- The test of a word, which is lent nothing.
 pub word-unique : (o k w : ℕ) (r q : WordChecked) → r ≡ checkWord o k w → q ≡ checkWord o k w → r ≡ q

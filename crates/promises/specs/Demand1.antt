@@ -1,4 +1,4 @@
--- Demand 1: whatever numbers and buffers it is lent, each operation on a word or a net gives the number that is due by its table and leaves each buffer as that clause says.
+-- Demand 1: whatever numbers and buffers it is lent, each operation on a word, a net or a table gives the number that is due by its table and leaves each buffer as that clause says.
 use Prim.Native.Nat.{ℕ, _+_}
 use mathlib.Core.List.{List, []}
 use Rattle.promises.specs.Tables.{Obeys}
@@ -19,6 +19,10 @@ use Rattle.mend.specs.Table.{mendingTable, mendingDone}
 use Rattle.reason.specs.Table.{reasonTable, reasonDone}
 use Rattle.reason_check.specs.Table.{checkTable, checkDone}
 use Rattle.promises.specs.Numbers.{wordNumber, checkedNumber, scanNumber, questionNumber, clashNumber, completionNumber, reasonNumber, verdictNumber, questionsNumber, compactionNumber, mendingNumber}
+use Rattle.valuation.specs.Values.{ownValues}
+use Rattle.valuation.specs.Table.{valuationTable, valuationDone}
+use Rattle.satisfies.specs.Table.{satisfiesTable, satisfiesDone}
+use Rattle.promises.specs.Numbers.{wordNumber, checkedNumber, scanNumber, questionNumber, clashNumber, completionNumber, reasonNumber, verdictNumber, valuationNumber, satisfiesNumber}
 use Rattle.promises.specs.Engines.{Engine}
 
 pub record Demand1 (e : Engine) : Type 0 where
@@ -41,3 +45,6 @@ pub record Demand1 (e : Engine) : Type 0 where
   pub compaction : (o k : ℕ) (ws m : List ℕ) → Obeys compactionNumber (compactionTable o k ws m) (compactionDone (compacted o k ws) ws m (o + k)) (e .compaction o k ws m)
   pub mending : (o k : ℕ) (ws kept dropped m : List ℕ)
       → Obeys mendingNumber (mendingTable o k ws kept dropped m) (mendingDone (keptFrom o k [] ws) (droppedFrom o k [] ws) kept dropped m (o + k)) (e .mending o k ws kept dropped m)
+  pub valuation : (o k : ℕ) (ws : List ℕ) (set : ℕ) (t m : List ℕ)
+      → Obeys valuationNumber (valuationTable o k ws set t m) (valuationDone (ownValues o k (chosen set ws)) t m (o + k)) (e .valuation o k ws set t m)
+  pub satisfies : (o k : ℕ) (t : List ℕ) (x y sign : ℕ) → Obeys satisfiesNumber (satisfiesTable o k t x y sign) (satisfiesDone o k t x y sign) (e .satisfies o k t x y sign)

@@ -24,6 +24,9 @@ use Rattle.mend.specs.Table.{MendingOutcome, mendedBy}
 use Rattle.reason.specs.Table.{ReasonOutcome, reasoned}
 use Rattle.reason_check.specs.Table.{verdict}
 use Rattle.reason_check.specs.declared.Verdict.{Verdict}
+use Rattle.valuation.specs.Table.{ValuationOutcome, filledBy}
+use Rattle.satisfies.specs.Table.{testedBy}
+use Rattle.satisfies.specs.declared.Tested.{Tested}
 
 -- The operations, the test of a word first, each over objects, kinds, words, a set of origins, what is asked, and the lent buffers as they are at entry.
 -- Compaction and mending read a plain list and no set; what is compacted is lent to be written.
@@ -39,6 +42,8 @@ pub record Engine : Type 0 where
   pub questions : ℕ → ℕ → List ℕ → ℕ → List ℕ → List ℕ → List ℕ → QuestionsOutcome
   pub compaction : ℕ → ℕ → List ℕ → List ℕ → CompactionOutcome
   pub mending : ℕ → ℕ → List ℕ → List ℕ → List ℕ → List ℕ → MendingOutcome
+  pub valuation : ℕ → ℕ → List ℕ → ℕ → List ℕ → List ℕ → ValuationOutcome
+  pub satisfies : ℕ → ℕ → List ℕ → ℕ → ℕ → ℕ → Tested
 
 -- A net whose words have origins, and a set of origins to read it with.
 pub record Read (o k : ℕ) (ws : List ℕ) (set : ℕ) : Type 0 where
@@ -64,6 +69,8 @@ ours = record {
   questions = questionedAll;
   compaction = compactedBy;
   mending = mendedBy;
+  valuation = filledBy;
+  satisfies = testedBy;
 }
 
 -- What a scan leaves, done or spent, with the bytes `past` behind its marks.
@@ -94,6 +101,8 @@ withScan f = record {
   questions = ours .questions;
   compaction = ours .compaction;
   mending = ours .mending;
+  valuation = ours .valuation;
+  satisfies = ours .satisfies;
 }
 
 abbrev pub withQuestion : (ℕ → ℕ → List ℕ → ℕ → ℕ → ℕ → List ℕ → QuestionOutcome) → Engine
@@ -109,6 +118,8 @@ withQuestion f = record {
   questions = ours .questions;
   compaction = ours .compaction;
   mending = ours .mending;
+  valuation = ours .valuation;
+  satisfies = ours .satisfies;
 }
 
 abbrev pub withCompletion : (ℕ → ℕ → List ℕ → ℕ → List ℕ → List ℕ → CompletionOutcome) → Engine
@@ -124,4 +135,6 @@ withCompletion f = record {
   questions = ours .questions;
   compaction = ours .compaction;
   mending = ours .mending;
+  valuation = ours .valuation;
+  satisfies = ours .satisfies;
 }

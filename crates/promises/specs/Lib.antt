@@ -7,6 +7,7 @@ pub mod Demand2
 pub mod Forward
 pub mod Reasoning
 pub mod AskingAll
+pub mod Valuing
 pub mod Demand3
 pub mod FromKind
 pub mod Compacting

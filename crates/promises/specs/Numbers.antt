@@ -14,6 +14,9 @@ use Rattle.mend.specs.Table.{MendingOutcome, mendedReply}
 use Rattle.reason.specs.Table.{ReasonOutcome, reasonedReply}
 use Rattle.reason_check.specs.Table.{verdictReply}
 use Rattle.reason_check.specs.declared.Verdict.{Verdict}
+use Rattle.valuation.specs.Table.{ValuationOutcome, filledReply}
+use Rattle.satisfies.specs.Table.{testedReply}
+use Rattle.satisfies.specs.declared.Tested.{Tested}
 use Rattle.netfile.specs.Contents.{contentsReply}
 use Rattle.netfile.specs.Table.{FileOutcome}
 
@@ -49,6 +52,12 @@ compactionNumber r = compactedReply (r .answer) .number
 
 abbrev pub mendingNumber : MendingOutcome → ℕ
 mendingNumber r = mendedReply (r .answer) .number
+
+abbrev pub valuationNumber : ValuationOutcome → ℕ
+valuationNumber r = filledReply (r .answer) .number
+
+abbrev pub satisfiesNumber : Tested → ℕ
+satisfiesNumber r = testedReply r .number
 
 abbrev pub fileNumber : FileOutcome → ℕ
 fileNumber r = contentsReply (r .contents) .number

@@ -29,6 +29,9 @@ use Rattle.mend.specs.declared.MendedNet.the-variants as mendedNet
 use Rattle.reason.specs.Table.{reasonOutcome}
 use Rattle.reason.specs.declared.Reasoned.the-variants as reasonedAs
 use Rattle.reason_check.specs.declared.Verdict.the-variants as verdictAs
+use Rattle.valuation.specs.Table.{valuationOutcome}
+use Rattle.valuation.specs.declared.Filled.the-variants as filled
+use Rattle.satisfies.specs.declared.Tested.the-variants as tested
 use Rattle.net.specs.Clauses.{call}
 use Rattle.net.specs.Table.{netClauses}
 use Rattle.promises.specs.Engines.{Engine, ours, scannedBy, withScan, withQuestion, withCompletion}
@@ -47,6 +50,8 @@ refuser r = record {
   questions = λ o k ws set ps bs m. questionsOutcome (askedAll.Refused r) bs m;
   compaction = λ o k ws m. compactionOutcome (compactedList.Refused r) ws m;
   mending = λ o k ws kept dropped m. mendingOutcome (mendedNet.Refused r) kept dropped m;
+  valuation = λ o k ws set t m. valuationOutcome (filled.Refused r) t m;
+  satisfies = λ o k t x y sign. tested.Refused r;
 }
 
 -- An answer turned into none.
@@ -112,4 +117,6 @@ hasty = record {
   questions = ours .questions;
   compaction = ours .compaction;
   mending = ours .mending;
+  valuation = ours .valuation;
+  satisfies = ours .satisfies;
 }

@@ -1,8 +1,10 @@
--- What a byte answers, as the code reads it.
-use Prim.Native.Nat.{ℕ, _/_, _%_}
+-- What a byte answers, as the code reads it, and the numbers of answers.
+use Prim.Native.Nat.{ℕ, _/_, _%_, _≤_}
 use mathlib.Core.Path.{_≡_}
+use native.Mathlib.Omega.{arith}
 use Rattle.theory.proofs.machine.Bytes.{has-U, no-U, has-F, no-F}
-use Rattle.question.specs.Table.{answerAt}
+use Rattle.question.specs.Table.{answerAt, answerNumber}
+use Rattle.question.specs.declared.Answer.{Answer}
 use Rattle.question.specs.declared.Answer.the-variants.{None, Yes, No, Both}
 
 module _ (b : ℕ) where
@@ -17,3 +19,10 @@ module _ (b : ℕ) where
 
   pub answer-none : (b / 4 % 2 ≡ 1 → ⊥) → (b / 2 % 2 ≡ 1 → ⊥) → None ≡ answerAt b
   answer-none u f = rw (no-U b u, no-F b f)
+
+-- An answer's number is at most 3.
+pub answer-low : (a : Answer) → answerNumber a ≤ 3
+answer-low None = omega arith
+answer-low Yes = omega arith
+answer-low No = omega arith
+answer-low Both = omega arith

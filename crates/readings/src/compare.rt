@@ -47,7 +47,7 @@ fn answer(
     let reply = run(
         engine,
         operation,
-        numbers_of(store),
+        numbers_of(operation, store),
         numbers_from(store, WORDS, case.words),
         case.first,
         case.second,

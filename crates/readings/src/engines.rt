@@ -7,12 +7,14 @@ use readings_cases::buffers::lend_list;
 use readings_cases::buffers::lend_mended;
 use readings_cases::buffers::lend_pairs;
 use readings_cases::buffers::lend_scratch;
+use readings_cases::buffers::lend_table;
 use readings_cases::buffers::lend_text;
 use readings_cases::buffers::take_answers;
 use readings_cases::buffers::take_links;
 use readings_cases::buffers::take_list;
 use readings_cases::buffers::take_mended;
 use readings_cases::buffers::take_scratch;
+use readings_cases::buffers::take_table;
 use readings_cases::buffers::take_text;
 use readings_cases::operations::Numbers;
 use readings_cases::operations::Operation;
@@ -278,6 +280,56 @@ fn with_mended(
     reply
 }
 
+// The valuation, with the first places of table and marks.
+fn on_table(
+    engine: Engine,
+    n: Numbers,
+    words: &[u32],
+    first: usize,
+    second: usize,
+    table: &mut [u8],
+    marks: &mut [u8],
+) -> Reply {
+    let a = least(first, table.len());
+    let b = least(second, marks.len());
+    match engine {
+        Engine::Proved => proved::on_table(n, words, &mut table[..a], &mut marks[..b]),
+        Engine::Second => other::on_table(n, words, &mut table[..a], &mut marks[..b]),
+    }
+}
+
+// The same, with the two buffers.
+fn with_table(
+    engine: Engine,
+    n: Numbers,
+    words: &[u32],
+    first: usize,
+    second: usize,
+    buffers: &mut [u32],
+) -> Reply {
+    let mut table = [0u8; 32768];
+    let mut marks = [0u8; 2048];
+    lend_table(first, second, buffers, &mut table, &mut marks);
+    let reply = on_table(engine, n, words, first, second, &mut table, &mut marks);
+    take_table(first, second, &table, &marks, buffers);
+    reply
+}
+
+// The test of a statement in a valuation.
+fn on_statement(engine: Engine, n: Numbers, table: &[u8]) -> Reply {
+    match engine {
+        Engine::Proved => proved::on_statement(n, table),
+        Engine::Second => other::on_statement(n, table),
+    }
+}
+
+// The same, with the valuation as the first buffer.
+fn with_statement(engine: Engine, n: Numbers, size: usize, buffers: &[u32]) -> Reply {
+    let mut table = [0u8; 32768];
+    to_bytes(numbers_from(buffers, 0, size), &mut table);
+    on_statement(engine, n, bytes_between(&table, 0, size))
+}
+
 // The reason, with the first places of scratch and list.
 fn on_scratch(
     engine: Engine,
@@ -379,6 +431,8 @@ pub fn run(
         Operation::Completion => with_list(engine, n, words, first, second, buffers),
         Operation::Compact => with_links(engine, n, first, second, buffers),
         Operation::Mend => with_mended(engine, n, words, first, second, third, buffers),
+        Operation::Valuation => with_table(engine, n, words, first, second, buffers),
+        Operation::Satisfies => with_statement(engine, n, first, buffers),
         Operation::Reason => with_scratch(engine, n, words, first, second, buffers),
         Operation::ReasonCheck => with_reason(engine, n, words, first, buffers),
         Operation::File => with_file(engine, first, buffers),

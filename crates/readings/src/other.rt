@@ -56,6 +56,16 @@ pub fn on_mended(
     second::mend(n.o, n.k, words, kept, dropped, marks)
 }
 
+// The valuation.
+pub fn on_table(n: Numbers, words: &[u32], table: &mut [u8], marks: &mut [u8]) -> Reply {
+    second::valuation(n.o, n.k, words, n.set, table, marks)
+}
+
+// The test of a statement in a valuation.
+pub fn on_statement(n: Numbers, table: &[u8]) -> Reply {
+    second::satisfies(n.o, n.k, table, n.x, n.y, n.sign)
+}
+
 // The reason.
 pub fn on_scratch(n: Numbers, words: &[u32], scratch: &mut [u16], list: &mut [u16]) -> Reply {
     second::reason(n.o, n.k, words, n.set, n.x, n.y, n.sign, scratch, list)

@@ -18,7 +18,9 @@ use strumelka::strumelka_question;
 use strumelka::strumelka_questions;
 use strumelka::strumelka_reason;
 use strumelka::strumelka_reason_check;
+use strumelka::strumelka_satisfies;
 use strumelka::strumelka_scan;
+use strumelka::strumelka_valuation;
 
 // The check of a net.
 pub fn on_words(n: Numbers, words: &[u32]) -> Reply {
@@ -77,6 +79,16 @@ pub fn on_mended(
     marks: &mut [u8],
 ) -> Reply {
     reply_given(strumelka_mend(n.o, n.k, words, kept, dropped, marks))
+}
+
+// The valuation.
+pub fn on_table(n: Numbers, words: &[u32], table: &mut [u8], marks: &mut [u8]) -> Reply {
+    reply_given(strumelka_valuation(n.o, n.k, words, n.set, table, marks))
+}
+
+// The test of a statement in a valuation.
+pub fn on_statement(n: Numbers, table: &[u8]) -> Reply {
+    reply_given(strumelka_satisfies(n.o, n.k, table, n.x, n.y, n.sign))
 }
 
 // The reason.

@@ -30,6 +30,7 @@ fn writes_first(operation: Operation) -> bool {
         Operation::CheckNet => false,
         Operation::CheckWord => false,
         Operation::Questions => false,
+        Operation::Satisfies => false,
         Operation::ReasonCheck => false,
         Operation::File => false,
         Operation::Ask => false,
@@ -44,6 +45,7 @@ fn writes_second(operation: Operation) -> bool {
         Operation::Completion => true,
         Operation::Compact => true,
         Operation::Mend => true,
+        Operation::Valuation => true,
         Operation::Reason => true,
         Operation::Ask => true,
         _ => false,
@@ -176,6 +178,24 @@ pub fn take_mended(
     copy(numbers_from(kept, 0, first), buffers, 0);
     copy(numbers_from(dropped, 0, second), buffers, SECOND_BUFFER);
     from_bytes(bytes_between(marks, 0, third), buffers, THIRD_BUFFER);
+}
+
+// A table and marks, as they are in the two buffers.
+pub fn lend_table(
+    first: usize,
+    second: usize,
+    buffers: &[u32],
+    table: &mut [u8],
+    marks: &mut [u8],
+) {
+    to_bytes(numbers_from(buffers, 0, first), table);
+    to_bytes(numbers_from(buffers, SECOND_BUFFER, second), marks);
+}
+
+// Takes table and marks back into the two buffers.
+pub fn take_table(first: usize, second: usize, table: &[u8], marks: &[u8], buffers: &mut [u32]) {
+    from_bytes(bytes_between(table, 0, first), buffers, 0);
+    from_bytes(bytes_between(marks, 0, second), buffers, SECOND_BUFFER);
 }
 
 // A scratch and a list, as they are in the two buffers.

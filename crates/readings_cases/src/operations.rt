@@ -25,6 +25,8 @@ pub enum Operation {
     Clash,
     Compact,
     Mend,
+    Valuation,
+    Satisfies,
     Reason,
     ReasonCheck,
     File,
@@ -53,7 +55,8 @@ pub struct Case {
     pub third: usize,
 }
 
-// The numbers of a case: o, k, the set of origins, and what follows it. The one word of a single test stands in the set's place.
+// The numbers of a case: o, k, the set of origins, and what follows it. The one word of a single test stands in the set's place, and a
+// case without a net has no set.
 pub struct Numbers {
     pub o: u32,
     pub k: u32,
@@ -93,6 +96,17 @@ pub fn operation_of(name: &[u8]) -> Operation {
     if same_bytes(name, b"mend") {
         return Operation::Mend;
     }
+    model_operation_of(name)
+}
+
+// The operation of a name, among those about valuations, reasons and files.
+fn model_operation_of(name: &[u8]) -> Operation {
+    if same_bytes(name, b"valuation") {
+        return Operation::Valuation;
+    }
+    if same_bytes(name, b"satisfies") {
+        return Operation::Satisfies;
+    }
     file_operation_of(name)
 }
 
@@ -114,7 +128,7 @@ fn file_operation_of(name: &[u8]) -> Operation {
 }
 
 // The letter of an operation's field, 0 after its last: n a number, b a byte, w words, m marks, c words that are written, s scratch,
-// r a reason, f a file, p pairs, a their answers.
+// r a reason, f a file, p pairs, a their answers, t a valuation's table.
 fn letter_at(operation: Operation, at: usize) -> u8 {
     match operation {
         Operation::CheckNet => byte_at(b"nnwn", at),
@@ -126,6 +140,8 @@ fn letter_at(operation: Operation, at: usize) -> u8 {
         Operation::Clash => byte_at(b"nnwnm", at),
         Operation::Compact => byte_at(b"nncm", at),
         Operation::Mend => byte_at(b"nnwccm", at),
+        Operation::Valuation => byte_at(b"nnwntm", at),
+        Operation::Satisfies => byte_at(b"nntnnn", at),
         Operation::Reason => byte_at(b"nnwnnnnsr", at),
         Operation::ReasonCheck => byte_at(b"nnwnnnnr", at),
         Operation::File => byte_at(b"f", at),
@@ -156,6 +172,7 @@ fn most_of(letter: u8) -> usize
         b'm' | b'p' | b'a' => 2048,
         b's' | b'r' => 4096,
         b'f' => 32769,
+        b't' => 32768,
         _ => 16384,
     }
 }
@@ -163,7 +180,7 @@ fn most_of(letter: u8) -> usize
 // The largest number that a list of that letter takes.
 fn largest_of(letter: u8) -> u32 {
     match letter {
-        b'm' | b'f' | b'a' => 255,
+        b'm' | b'f' | b'a' | b't' => 255,
         b's' | b'r' | b'p' => 65535,
         _ => 4294967295,
     }
@@ -299,15 +316,23 @@ pub fn read_case(operation: Operation, line: &[u8], at: usize, store: &mut [u32]
     ended(line, case)
 }
 
-// The numbers in a store.
-pub fn numbers_of(store: &[u32]) -> Numbers {
+// The numbers in a store, where the statement asked begins at a place.
+fn numbers_with(store: &[u32], at: usize) -> Numbers {
     Numbers {
         o: number_at(store, 0),
         k: number_at(store, 1),
         set: number_at(store, 2),
         word: number_at(store, 2),
-        x: number_at(store, 3),
-        y: number_at(store, 4),
-        sign: number_at(store, 5),
+        x: number_at(store, at),
+        y: number_at(store, next(at)),
+        sign: number_at(store, next(next(at))),
+    }
+}
+
+// The numbers of an operation in a store.
+pub fn numbers_of(operation: Operation, store: &[u32]) -> Numbers {
+    match operation {
+        Operation::Satisfies => numbers_with(store, 2),
+        _ => numbers_with(store, 3),
     }
 }

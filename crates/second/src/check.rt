@@ -137,6 +137,11 @@ pub fn node_check(o: u32, k: u32, words: &[u32], set: u32, x: u32) -> Reply {
     net
 }
 
+// Whether x is a node, y a kind, and the sign one of the two.
+pub fn is_statement(o: u32, k: u32, x: u32, y: u32, sign: u32) -> bool {
+    is_node(o, k, x) && is_kind(o, k, y) && sign <= 1
+}
+
 // Those of a net, and number 4 for a call about the statement (x, y, sign).
 pub fn statement_check(
     o: u32,
@@ -147,12 +152,9 @@ pub fn statement_check(
     y: u32,
     sign: u32,
 ) -> Reply {
-    let start = node_check(o, k, words, set, x);
-    if start.number != 0 {
-        return start;
-    }
-    if sign > 1 || !is_kind(o, k, y) {
+    let net = net_check(o, k, words, set);
+    if net.number == 0 && !is_statement(o, k, x, y, sign) {
         return refused(4);
     }
-    start
+    net
 }

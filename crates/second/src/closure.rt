@@ -10,7 +10,7 @@ use crate::places::node;
 use crate::places::put_word;
 
 // The cell of (x, y) in rows of 1,024 cells: half of the word that says x → y.
-fn cell(x: usize, y: usize) -> usize
+pub fn cell(x: usize, y: usize) -> usize
     ensures { λ r. ⌜ r < 1048576 ⌝ }
 {
     x % 1024 * 1024 + y % 1024

@@ -9,12 +9,14 @@ mod rounds; // rounds.rt: the rounds of a scan
 mod pairs; // pairs.rt: a screenful of questions
 mod compaction; // compaction.rt: links that say nothing new
 mod mending; // mending.rt: links that do not clash
+mod models; // models.rt: valuations
 mod search; // search.rt: the shortest reason
 mod path; // path.rt: whether a list is a path
 mod file; // file.rt: the net file
 mod text; // text.rt: the lines of `ask`
 
 use check::cause_of;
+use check::is_statement;
 use check::net_check;
 use check::node_check;
 use check::node_count;
@@ -40,6 +42,11 @@ use file::set_start;
 use file::start_of;
 use file::wrong_place;
 use mending::mend_words;
+use models::are_values;
+use models::holds;
+use models::is_room;
+use models::square_of;
+use models::write_rows;
 use pairs::is_screenful;
 use pairs::mark_last;
 use pairs::write_answers;
@@ -222,6 +229,56 @@ pub fn mend(
     }
     let done = mend_words(node(o), n, words, kept, dropped);
     given(0, narrow(done.kept), narrow(done.dropped / 3))
+}
+
+// The valuation of a net: its elements are the objects and a witness for each kind, and the byte of an element and a kind is the answer for
+// that node and kind.
+pub fn valuation(
+    o: u32,
+    k: u32,
+    words: &[u32],
+    set: u32,
+    table: &mut [u8],
+    marks: &mut [u8],
+) -> Reply {
+    let checked = net_check(o, k, words, set);
+    if checked.number != 0 {
+        return checked;
+    }
+    let n = node_count(o, k);
+    if marks.len() < n {
+        return refused(5);
+    }
+    if !is_room(n, node(k), table.len()) {
+        return refused(13);
+    }
+    clear(marks, n);
+    let mut support = empty_table();
+    close(node(o), n, words, set, &mut support);
+    write_rows(node(o), n, &support, table);
+    refused(0)
+}
+
+// Whether the statement (x, y, sign) holds in a lent valuation of that shape.
+pub fn satisfies(o: u32, k: u32, table: &[u8], x: u32, y: u32, sign: u32) -> Reply {
+    let n = node_count(o, k);
+    if n > 1024 {
+        return refused(1);
+    }
+    if !is_statement(o, k, x, y, sign) {
+        return refused(4);
+    }
+    if !is_room(n, node(k), table.len()) {
+        return refused(13);
+    }
+    let square = square_of(node(o), n, table);
+    if !are_values(&square) {
+        return refused(13);
+    }
+    if holds(node(o), n, &square, node(x), node(y), sign) {
+        return given(0, 1, 0);
+    }
+    given(0, 0, 0)
 }
 
 // The shortest reason for the statement (x, y, sign).

@@ -13,6 +13,8 @@ use Rattle.compact.specs.Table.{compactedBy, compactedReply}
 use Rattle.mend.specs.Table.{mendedBy, mendedReply}
 use Rattle.reason.specs.Table.{reasoned, reasonedReply}
 use Rattle.reason_check.specs.Table.{verdict, verdictReply}
+use Rattle.valuation.specs.Table.{filledBy, filledReply}
+use Rattle.satisfies.specs.Table.{testedBy, testedReply}
 
 -- The structs r and q that a statement lets a call give, where s is its reply.
 module _ {s : Reply} (r q : Reply) where
@@ -33,6 +35,10 @@ module _ {s : Reply} (r q : Reply) where
 -- `strumelka_check_word`.
 pub given-check-word-unique : (o k w : ℕ) (r q : Reply) → r ≡ wordReply (checkWord o k w) → q ≡ wordReply (checkWord o k w) → r ≡ q
 given-check-word-unique o k w r q = gives-one r q
+
+-- `strumelka_satisfies`.
+pub given-satisfies-unique : (o k : ℕ) (table : List ℕ) (x y sign : ℕ) (r q : Reply) → r ≡ testedReply (testedBy o k table x y sign) → q ≡ testedReply (testedBy o k table x y sign) → r ≡ q
+given-satisfies-unique o k table x y sign r q = gives-one r q
 
 module _ (o k : ℕ) (ws : List ℕ) (set : ℕ) (r q : Reply) where
   -- `strumelka_check_net`.
@@ -81,6 +87,13 @@ module _ (o k : ℕ) (ws : List ℕ) (set : ℕ) (r q : Reply) where
       → (q ≡ reasonedReply (reasoned o k ws set x y sign scratch list .answer)) × (l ≡ reasoned o k ws set x y sign scratch list .scratch) × (d ≡ reasoned o k ws set x y sign scratch list .list)
       → (r ≡ q) × (m ≡ l) × (c ≡ d)
   given-reason-unique x y sign scratch list m l c d = leaves-two r q m l c d
+
+  -- `strumelka_valuation`: m and l the tables, c and d the marks left.
+  pub given-valuation-unique : (table marks m l c d : List ℕ)
+      → (r ≡ filledReply (filledBy o k ws set table marks .answer)) × (m ≡ filledBy o k ws set table marks .table) × (c ≡ filledBy o k ws set table marks .marks)
+      → (q ≡ filledReply (filledBy o k ws set table marks .answer)) × (l ≡ filledBy o k ws set table marks .table) × (d ≡ filledBy o k ws set table marks .marks)
+      → (r ≡ q) × (m ≡ l) × (c ≡ d)
+  given-valuation-unique table marks m l c d = leaves-two r q m l c d
 
 -- `strumelka_compact`: m and l the lists, c and d the marks left.
 pub given-compact-unique : (o k : ℕ) (list marks : List ℕ) (r q : Reply) (m l c d : List ℕ)

@@ -11,6 +11,8 @@ ghost use Rattle.compact.specs.Table.{compactedBy, compactedReply};
 ghost use Rattle.mend.specs.Table.{mendedBy, mendedReply};
 ghost use Rattle.reason.specs.Table.{reasoned, reasonedReply};
 ghost use Rattle.reason_check.specs.Table.{verdict, verdictReply};
+ghost use Rattle.valuation.specs.Table.{filledBy, filledReply};
+ghost use Rattle.satisfies.specs.Table.{testedBy, testedReply};
 use check_word::check_word;
 use clash::find_clash;
 use compact::compact_list;
@@ -20,9 +22,11 @@ use library_answer::asked_given;
 use library_answer::clashed_given;
 use library_answer::compacted_given;
 use library_answer::completed_given;
+use library_answer::filled_given;
 use library_answer::mended_given;
 use library_answer::reasoned_given;
 use library_answer::scanned_given;
+use library_answer::tested_given;
 use library_answer::verdict_given;
 use library_reply::checked_given;
 use library_reply::word_given;
@@ -33,7 +37,9 @@ use question::ask_question;
 use questions::ask_all;
 use reason::find_reason;
 use reason_check::check_reason;
+use satisfies::test_valuation;
 use scan::scan;
+use valuation::fill_valuation;
 
 // The test of a single word.
 #[no_mangle]
@@ -198,4 +204,36 @@ pub extern "C" fn strumelka_reason_check(
     ensures { λ r. ⌜ r ≡ verdictReply (verdict o k (now (words .entry)) set x y sign (now (list .entry))) ⌝ }
 {
     verdict_given(check_reason(o, k, words, set, x, y, sign, list))
+}
+
+// The valuation of a net, with room for the table and for marks.
+#[no_mangle]
+pub extern "C" fn strumelka_valuation(
+    o: u32,
+    k: u32,
+    words: &[u32],
+    set: u32,
+    table: &mut [u8],
+    marks: &mut [u8],
+) -> Reply
+    ensures { λ r. ⌜ (r ≡ filledReply (filledBy o k (now (words .entry)) set (now (table .entry)) (now (marks .entry)) .answer))
+        × (now (table .exit) ≡ filledBy o k (now (words .entry)) set (now (table .entry)) (now (marks .entry)) .table)
+        × (now (marks .exit) ≡ filledBy o k (now (words .entry)) set (now (table .entry)) (now (marks .entry)) .marks) ⌝ }
+{
+    filled_given(fill_valuation(o, k, words, set, table, marks))
+}
+
+// The test of x → y (`sign` 0) or x ↛ y (`sign` 1) in a lent valuation.
+#[no_mangle]
+pub extern "C" fn strumelka_satisfies(
+    o: u32,
+    k: u32,
+    table: &[u8],
+    x: u32,
+    y: u32,
+    sign: u32,
+) -> Reply
+    ensures { λ r. ⌜ r ≡ testedReply (testedBy o k (now (table .entry)) x y sign) ⌝ }
+{
+    tested_given(test_valuation(o, k, table, x, y, sign))
 }

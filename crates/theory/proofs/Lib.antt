@@ -7,4 +7,5 @@ pub mod compaction
 pub mod mending
 pub mod reason
 pub mod origins
+pub mod valuation
 pub mod Readings

@@ -17,4 +17,5 @@ pub mod Mending
 pub mod Reasons
 pub mod Searches
 pub mod Checks
+pub mod Valuations
 pub mod NetM

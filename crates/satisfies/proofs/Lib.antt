@@ -1,0 +1,5 @@
+pub mod Testing
+pub mod Outcomes
+pub mod Exactly
+pub mod Replies
+pub mod Readings

@@ -1,0 +1,6 @@
+pub mod Bytes
+pub mod Rows
+pub mod Outcomes
+pub mod Exact
+pub mod Replies
+pub mod Readings
