@@ -44,6 +44,15 @@ pub struct Engine {
     ) -> Answer,
     pub completion:
         fn(o: u32, k: u32, words: &[u32], set: u32, marks: &mut [u8], list: &mut [u32]) -> Answer,
+    pub completion_by_rows: fn(
+        o: u32,
+        k: u32,
+        words: &[u32],
+        set: u32,
+        yes: &mut [u64],
+        no: &mut [u64],
+        list: &mut [u32],
+    ) -> Answer,
     pub clash: fn(o: u32, k: u32, words: &[u32], set: u32, marks: &mut [u8]) -> Answer,
     pub compact: fn(o: u32, k: u32, list: &mut [u32], marks: &mut [u8]) -> Answer,
     pub mend: fn(

@@ -12,6 +12,7 @@ mod plain;
 mod proved;
 #[path = "../tests/library/random.rs"]
 mod random;
+mod rows;
 
 use engine::{Answer, Engine};
 use nets::{
@@ -39,6 +40,8 @@ enum Operation {
     Reason,
     ReasonCheck,
     Completion,
+    /// With rows that hold this word everywhere before each call.
+    CompletionByRows(u64),
     Clash,
     Compact,
     Mend,
@@ -75,6 +78,8 @@ struct Room {
     answers: Vec<u8>,
     marks: Vec<u8>,
     words_list: Vec<u32>,
+    yes: Vec<u64>,
+    no: Vec<u64>,
     scratch: Vec<u16>,
     reason_list: Vec<u16>,
     path: Vec<u16>,
@@ -101,6 +106,17 @@ fn main() {
     );
     println!("\n64 questions about one node, in one call and one by one:\n");
     print_screenful(ratios, &random_shape(100, 800, 8_000));
+    println!("\nCompletion by rows of bits, which the call clears itself:\n");
+    print_rows(
+        ratios,
+        &[
+            random_shape(100, 800, 8_000),
+            chain_shape(900),
+            random_shape(24, 1000, 200_000),
+        ],
+    );
+    println!("\nThe same against completion by markers:\n");
+    print_both_completions(ratios, &random_shape(100, 800, 8_000));
     println!("\nCompaction of a list of plain words, written anew for each call:\n");
     print_compaction(
         ratios,
@@ -252,6 +268,57 @@ fn print_screenful(ratios: bool, shape: &Shape) {
     );
 }
 
+fn print_rows(ratios: bool, shapes: &[Shape]) {
+    println!(
+        "| net | words written | rows before | {}proved / plain |",
+        if ratios { "" } else { "proved | plain | " }
+    );
+    println!("|---|---|---|{}---|", if ratios { "" } else { "---|---|" });
+    for shape in shapes {
+        for (before, name) in [(0, "zeros"), (u64::MAX, "ones")] {
+            let best = measure(shape, Operation::CompletionByRows(before));
+            let times = if ratios {
+                String::new()
+            } else {
+                format!("{} | {} | ", time(best.proved), time(best.plain))
+            };
+            println!(
+                "| {} | {} | {} | {}{:.2} |",
+                shape.name,
+                best.answer.first,
+                name,
+                times,
+                best.proved / best.plain
+            );
+        }
+    }
+}
+
+fn print_both_completions(ratios: bool, shape: &Shape) {
+    println!(
+        "| net | {}proved: by markers / by rows |",
+        if ratios {
+            ""
+        } else {
+            "proved, by markers | proved, by rows | "
+        }
+    );
+    println!("|---|{}---|", if ratios { "" } else { "---|---|" });
+    let by_markers = measure(shape, Operation::Completion);
+    let by_rows = measure(shape, Operation::CompletionByRows(u64::MAX));
+    let times = if ratios {
+        String::new()
+    } else {
+        format!("{} | {} | ", time(by_markers.proved), time(by_rows.proved))
+    };
+    println!(
+        "| {} | {}{:.0} |",
+        shape.name,
+        times,
+        by_markers.proved / by_rows.proved
+    );
+}
+
 fn print_compaction(ratios: bool, shapes: &[Shape]) {
     println!(
         "| net | words left | {}proved / plain |",
@@ -347,6 +414,7 @@ fn measure(shape: &Shape, operation: Operation) -> Measured {
     for turn in 0..MOST_TURNS {
         for side in 0..2 {
             let which = (side + turn) % 2;
+            prepare(operation, &mut rooms[which]);
             let from = processor_seconds();
             for _ in 0..calls {
                 answers[which] = call(opaque(engines[which]), operation, shape, &mut rooms[which]);
@@ -367,12 +435,23 @@ fn measure(shape: &Shape, operation: Operation) -> Measured {
         if spent > TOO_LONG || (spent > SPENT && turn + 1 >= FEWEST_TURNS) {
             break;
         }
-        calls = (TURN / best[1]).ceil().max(1.0) as usize;
+        calls = match operation {
+            Operation::CompletionByRows(_) => 1,
+            _ => (TURN / best[1]).ceil().max(1.0) as usize,
+        };
     }
     Measured {
         proved: best[0],
         plain: best[1],
         answer: answers[0],
+    }
+}
+
+/// What stands in a buffer before a call and is not timed.
+fn prepare(operation: Operation, room: &mut Room) {
+    if let Operation::CompletionByRows(before) = operation {
+        room.yes.fill(before);
+        room.no.fill(before);
     }
 }
 
@@ -416,6 +495,8 @@ fn room_for(shape: &Shape) -> Room {
         answers: vec![0; SCREENFUL],
         marks: vec![0; nodes],
         words_list: vec![0; 2 * nodes * shape.net.k as usize],
+        yes: vec![0; shape.net.rows_size()],
+        no: vec![0; shape.net.rows_size()],
         scratch: vec![0; 2 * nodes],
         reason_list: vec![0; 2 * nodes + 3],
         path: path_of(shape),
@@ -515,6 +596,15 @@ fn call(engine: &Engine, operation: Operation, shape: &Shape, room: &mut Room) -
             words,
             ALL_ORIGINS,
             &mut room.marks,
+            &mut room.words_list,
+        ),
+        Operation::CompletionByRows(_) => (engine.completion_by_rows)(
+            o,
+            k,
+            words,
+            ALL_ORIGINS,
+            &mut room.yes,
+            &mut room.no,
             &mut room.words_list,
         ),
         Operation::Compact => {

@@ -4,9 +4,10 @@
 
 use crate::engine::{Answer, Engine};
 use crate::nets::{
-    head_of, is_chosen, origin_of, plain as plain_of, tail_of, word, ALL_ORIGINS, ORIGINS,
-    WORD_LIMIT,
+    head_of, is_chosen, origin_of, plain as plain_of, row_size, tail_of, word, ALL_ORIGINS,
+    ORIGINS, WORD_LIMIT,
 };
+use crate::rows;
 
 const NODE_LIMIT: usize = 1024;
 const NO_WAY: u16 = 65_535;
@@ -31,6 +32,7 @@ pub const ENGINE: Engine = Engine {
     question,
     questions,
     completion,
+    completion_by_rows,
     clash,
     compact,
     mend,
@@ -147,6 +149,30 @@ fn completion(
             size as u32,
             0,
         ))
+    })
+}
+
+fn completion_by_rows(
+    o: u32,
+    k: u32,
+    words: &[u32],
+    set: u32,
+    yes: &mut [u64],
+    no: &mut [u64],
+    list: &mut [u32],
+) -> Answer {
+    on_net(o, k, words, set, |net| {
+        let each = row_size(net.nodes);
+        let (yes, no) = (net.places(each, yes)?, net.places(each, no)?);
+        let chosen = words.iter().filter(|&&word| is_chosen(set, word));
+        let links = chosen.map(|&word| (tail_of(word), head_of(word), word % 2));
+        rows::fill(net.objects, net.nodes, links, yes, no);
+        let size = rows::count(yes, no);
+        if size > list.len() {
+            return Ok(Answer::new(8, size as u32, 0));
+        }
+        rows::write(net.nodes, yes, no, &mut list[..size]);
+        Ok(Answer::new(0, size as u32, 0))
     })
 }
 

@@ -62,6 +62,19 @@ mod c {
             list: *mut u32,
             list_len: usize,
         ) -> Answer;
+        pub fn strumelka_completion_by_rows(
+            o: u32,
+            k: u32,
+            words: *const u32,
+            words_len: usize,
+            set: u32,
+            yes: *mut u64,
+            yes_len: usize,
+            no: *mut u64,
+            no_len: usize,
+            list: *mut u32,
+            list_len: usize,
+        ) -> Answer;
         pub fn strumelka_clash(
             o: u32,
             k: u32,
@@ -127,6 +140,7 @@ pub const ENGINE: Engine = Engine {
     question,
     questions,
     completion,
+    completion_by_rows,
     clash,
     compact,
     mend,
@@ -221,6 +235,32 @@ fn completion(
             set,
             marks.as_mut_ptr(),
             marks.len(),
+            list.as_mut_ptr(),
+            list.len(),
+        )
+    }
+}
+
+fn completion_by_rows(
+    o: u32,
+    k: u32,
+    words: &[u32],
+    set: u32,
+    yes: &mut [u64],
+    no: &mut [u64],
+    list: &mut [u32],
+) -> Answer {
+    unsafe {
+        c::strumelka_completion_by_rows(
+            o,
+            k,
+            words.as_ptr(),
+            words.len(),
+            set,
+            yes.as_mut_ptr(),
+            yes.len(),
+            no.as_mut_ptr(),
+            no.len(),
             list.as_mut_ptr(),
             list.len(),
         )

@@ -62,10 +62,11 @@ extern "C" {
 #define STRUMELKA_ALL_ORIGINS 15u
 
 /* Buffer sizes for a net of o objects and k kinds, and of so many words, in elements; constant where these are.
- * MARKS, SCRATCH, DROPPED_LIST and TABLE are what a call needs, and less is refused. REASON_LIST and COMPLETION_LIST are
- * the most that any net of that size can need: a shorter list is fine where the result fits it. */
+ * MARKS, SCRATCH, ROWS, DROPPED_LIST and TABLE are what a call needs, and less is refused. REASON_LIST and COMPLETION_LIST
+ * are the most that any net of that size can need: a shorter list is fine where the result fits it. */
 #define STRUMELKA_MARKS(o, k) ((size_t)(o) + (size_t)(k))
 #define STRUMELKA_SCRATCH(o, k) (2u * STRUMELKA_MARKS(o, k))
+#define STRUMELKA_ROWS(o, k) (STRUMELKA_MARKS(o, k) * ((STRUMELKA_MARKS(o, k) + 63u) / 64u))
 #define STRUMELKA_REASON_LIST(o, k) ((size_t)2 + 2u * (size_t)(k) + ((o) > 0 ? 1u : 0u))
 #define STRUMELKA_COMPLETION_LIST(o, k) (2u * STRUMELKA_MARKS(o, k) * (size_t)(k))
 #define STRUMELKA_DROPPED_LIST(words) ((size_t)3 * (size_t)(words))
@@ -183,6 +184,29 @@ struct strumelka_answer strumelka_questions(
 struct strumelka_answer strumelka_completion(
     uint32_t o, uint32_t k, const uint32_t *words, size_t words_len, uint32_t set,
     uint8_t *marks, size_t marks_len, uint32_t *list, size_t list_len);
+
+/* The same completion by rows of bits in lent words of 64, far quicker on a large net. With w = (o + k + 63) / 64, row x has
+ * the w words from x * w on, and its bit y is bit y % 64 of the word x * w + y / 64. Afterwards that bit is set in yes
+ * exactly if node x is of kind y, and in no exactly if it is not, as far as the net supports it, whatever the rows held
+ * before. Bits of objects, and those from o + k on, are zero.
+ *   0            first = the words written to the front of list; places after them unchanged
+ *   1, 2, 15, 3  as in strumelka_check_net
+ *   5            yes_len or no_len is below STRUMELKA_ROWS(o, k); yes, no and list unchanged
+ *   8            list_len is too small; first = the words needed; list unchanged
+ * With 0 and 8 the first STRUMELKA_ROWS(o, k) words of yes and of no are the rows; words after them unchanged. */
+struct strumelka_answer strumelka_completion_by_rows(
+    uint32_t o, uint32_t k, const uint32_t *words, size_t words_len, uint32_t set,
+    uint64_t *yes, size_t yes_len, uint64_t *no, size_t no_len, uint32_t *list, size_t list_len);
+
+/* The question whether node x is of kind y, read off rows that strumelka_completion_by_rows has left: two bits. No net is
+ * read and nothing is written, and of rows from elsewhere it is the same two bits.
+ *   0  first = STRUMELKA_ANSWER_NONE, _YES, _NO or _BOTH
+ *   1  o + k is over STRUMELKA_NODE_LIMIT, added without wrapping
+ *   4  x is no node, or y is no kind
+ *   5  yes_len or no_len is below STRUMELKA_ROWS(o, k) */
+struct strumelka_answer strumelka_answer_in_rows(
+    uint32_t o, uint32_t k, const uint64_t *yes, size_t yes_len, const uint64_t *no, size_t no_len,
+    uint32_t x, uint32_t y);
 
 /* The clash test: is some node, object or kind, both of some kind and not of it?
  *   0            first = the smallest such node; second = its smallest such kind

@@ -13,7 +13,7 @@ const GUARD: u8 = 0xa5;
 #[derive(PartialEq, Eq)]
 pub struct Outcome {
     pub answer: Answer,
-    pub lists: Vec<Vec<u32>>,
+    pub lists: Vec<Vec<u64>>,
 }
 
 impl fmt::Display for Outcome {
@@ -45,22 +45,22 @@ impl Outcome {
 /// A list in memory, with guard bytes before it, and after it every other time: where there are none the list ends with
 /// its allocation, so that a tool that watches memory sees what is read beyond it.
 struct Lent {
-    /// Numbers of four bytes, so that the beginning is aligned for every width.
-    memory: Vec<u32>,
+    /// Numbers of eight bytes, so that the beginning is aligned for every width.
+    memory: Vec<u64>,
     start: usize,
     width: usize,
     length: usize,
 }
 
 impl Lent {
-    fn new(field: Field, values: &[u32], turn: usize) -> Lent {
+    fn new(field: Field, values: &[u64], turn: usize) -> Lent {
         let width = field.shape().width;
         let size = values.len() * width;
         let after = if turn % 2 == 0 { 0 } else { 4 + turn % 13 };
-        let words = (size + after + 3) / 4 + 2;
-        let start = (4 * words - size - after) / width * width;
+        let words = (size + after + 7) / 8 + 2;
+        let start = (8 * words - size - after) / width * width;
         let mut lent = Lent {
-            memory: vec![u32::from_ne_bytes([GUARD; 4]); words],
+            memory: vec![u64::from_ne_bytes([GUARD; 8]); words],
             start,
             width,
             length: values.len(),
@@ -73,14 +73,14 @@ impl Lent {
     }
 
     fn bytes(&self) -> &[u8] {
-        // Safe: the memory of n words is 4n bytes.
-        unsafe { std::slice::from_raw_parts(self.memory.as_ptr().cast(), 4 * self.memory.len()) }
+        // Safe: the memory of n words is 8n bytes.
+        unsafe { std::slice::from_raw_parts(self.memory.as_ptr().cast(), 8 * self.memory.len()) }
     }
 
     fn bytes_mut(&mut self) -> &mut [u8] {
         // Safe: likewise, and any bytes make words.
         unsafe {
-            std::slice::from_raw_parts_mut(self.memory.as_mut_ptr().cast(), 4 * self.memory.len())
+            std::slice::from_raw_parts_mut(self.memory.as_mut_ptr().cast(), 8 * self.memory.len())
         }
     }
 
@@ -93,12 +93,12 @@ impl Lent {
         }
     }
 
-    fn values(&self) -> Vec<u32> {
+    fn values(&self) -> Vec<u64> {
         let end = self.start + self.length * self.width;
         let widened = |bytes: &[u8]| {
-            let mut four = [0; 4];
-            four[..bytes.len()].copy_from_slice(bytes);
-            u32::from_le_bytes(four)
+            let mut eight = [0; 8];
+            eight[..bytes.len()].copy_from_slice(bytes);
+            u64::from_le_bytes(eight)
         };
         self.bytes()[self.start..end]
             .chunks(self.width)
@@ -128,7 +128,7 @@ pub fn run(case: &Case, turn: usize) -> Result<Outcome, String> {
         .map(|(lent, values)| match lent {
             Some(lent) => lent.hand(),
             None => Handed {
-                number: values[0],
+                number: values[0] as u32,
                 list: std::ptr::null_mut(),
                 length: 0,
             },

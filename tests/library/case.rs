@@ -9,7 +9,7 @@ use crate::operations::Operation;
 #[derive(Clone)]
 pub struct Case<'a> {
     pub operation: &'a Operation,
-    pub values: Vec<Vec<u32>>,
+    pub values: Vec<Vec<u64>>,
 }
 
 impl<'a> Case<'a> {
@@ -17,7 +17,7 @@ impl<'a> Case<'a> {
     pub fn filled(
         operations: &'a [Operation],
         name: &str,
-        fill: impl Fn(Field) -> Vec<u32>,
+        fill: impl Fn(Field) -> Vec<u64>,
     ) -> Case<'a> {
         let operation = operations.iter().find(|it| it.name == name);
         let operation = operation.expect("the operation is in the table");
@@ -43,21 +43,32 @@ impl<'a> Case<'a> {
     }
 
     /// The values of the field of that kind; of a number the only one. Empty where the operation has no such field.
-    pub fn values_of(&self, field: Field) -> &[u32] {
+    pub fn values_of(&self, field: Field) -> &[u64] {
         let place = self.operation.fields.iter().position(|&it| it == field);
         place.map_or(&[], |place| &self.values[place])
     }
 
+    /// The same of a field whose numbers have 32 bits or fewer.
+    pub fn words_of(&self, field: Field) -> Vec<u32> {
+        let values = self.values_of(field).iter();
+        values.map(|&value| value as u32).collect()
+    }
+
     /// Gives the field of that kind other values, where the operation has one.
-    pub fn set(&mut self, field: Field, values: Vec<u32>) {
+    pub fn set(&mut self, field: Field, values: Vec<u64>) {
         if let Some(place) = self.operation.fields.iter().position(|&it| it == field) {
             self.values[place] = values;
         }
     }
 }
 
+/// Numbers as the values of a field.
+pub fn widened(numbers: &[u32]) -> Vec<u64> {
+    numbers.iter().map(|&number| number.into()).collect()
+}
+
 /// The numbers between two brackets, `7*5` being five of them.
-fn read_list<'a>(words: &mut impl Iterator<Item = &'a str>) -> Option<Vec<u32>> {
+fn read_list<'a>(words: &mut impl Iterator<Item = &'a str>) -> Option<Vec<u64>> {
     let mut list = Vec::new();
     if words.next()? != "[" {
         return None;
@@ -87,7 +98,7 @@ impl fmt::Display for Case<'_> {
 }
 
 /// A list in brackets, with four and more equal numbers in a row shortened.
-pub fn list_text(list: &[u32]) -> String {
+pub fn list_text(list: &[u64]) -> String {
     let mut parts = Vec::new();
     let mut rest = list;
     while let Some(number) = rest.first() {

@@ -2,7 +2,7 @@
 //! drawn depends on its kind alone, so that an operation of known fields is drawn as soon as it stands in the table.
 
 use crate::call::{run, Outcome};
-use crate::case::Case;
+use crate::case::{widened, Case};
 use crate::fields::Field;
 use crate::nets::{draw_illegal, draw_origin, plain, word, Net, ALL_ORIGINS};
 use crate::operations::Operation;
@@ -23,8 +23,7 @@ pub fn draw_case<'a>(
         draw_path(random, net, operations, &mut case);
     }
     if operation.fields.contains(&Field::Links) && net.words.len() < 20 && random.chance(25) {
-        let list = completed(net, operations);
-        case.set(Field::Links, list);
+        case.set(Field::Links, completed(net, operations));
     }
     if operation.fields.contains(&Field::Model) && net.nodes() < 12 && random.chance(60) {
         let mut table = run_on(net, operations, "valuation", net.table_size()).lists[0].clone();
@@ -33,32 +32,41 @@ pub fn draw_case<'a>(
         table.extend(garbage(random, Field::Model, behind));
         case.set(Field::Model, table);
     }
+    if operation.fields.contains(&Field::FilledYes) && random.chance(60) {
+        let filled = run_on(net, operations, "completion_by_rows", net.rows_size());
+        case.set(Field::FilledYes, filled.lists[0].clone());
+        case.set(Field::FilledNo, filled.lists[1].clone());
+    }
     fit_to_pairs(random, &mut case);
     fit_to_result(random, net, &mut case);
     case
 }
 
 /// The values of a field. A budget is endless and a list for the result is empty until its size is known.
-fn draw_field(random: &mut Random, net: &Net, field: Field) -> Vec<u32> {
+fn draw_field(random: &mut Random, net: &Net, field: Field) -> Vec<u64> {
     let nodes = net.nodes();
     match field {
-        Field::Objects => vec![net.o],
-        Field::Kinds => vec![net.k],
-        Field::Words => net.words.clone(),
-        Field::Plain | Field::Links => draw_plain(random, net),
-        Field::Set => vec![draw_set(random)],
-        Field::Word => vec![draw_word(random, net)],
-        Field::Node => vec![draw_node(random, net)],
-        Field::Kind => vec![draw_kind(random, net)],
-        Field::Sign => vec![draw_sign(random)],
-        Field::Budget => vec![u32::MAX],
-        Field::Pairs => draw_pairs(random, net),
+        Field::Objects => widened(&[net.o]),
+        Field::Kinds => widened(&[net.k]),
+        Field::Words => widened(&net.words),
+        Field::Plain | Field::Links => widened(&draw_plain(random, net)),
+        Field::Set => widened(&[draw_set(random)]),
+        Field::Word => widened(&[draw_word(random, net)]),
+        Field::Node => widened(&[draw_node(random, net)]),
+        Field::Kind => widened(&[draw_kind(random, net)]),
+        Field::Sign => widened(&[draw_sign(random)]),
+        Field::Budget => widened(&[u32::MAX]),
+        Field::Pairs => widened(&draw_pairs(random, net)),
         Field::Marks => {
             let size = draw_marks_size(random, nodes);
             garbage(random, field, size)
         }
         Field::Scratch => {
             let size = draw_size(random, 2 * nodes);
+            garbage(random, field, size)
+        }
+        Field::Yes | Field::No | Field::FilledYes | Field::FilledNo => {
+            let size = draw_room(random, net.rows_size());
             garbage(random, field, size)
         }
         Field::Kept => {
@@ -75,12 +83,12 @@ fn draw_field(random: &mut Random, net: &Net, field: Field) -> Vec<u32> {
         }
         Field::Model => {
             let size = draw_room(random, net.table_size()).min(field.shape().most);
-            let values = (0..size).map(|_| random.below(4) as u32).collect();
+            let values = (0..size).map(|_| random.below(4) as u64).collect();
             spoilt(random, values)
         }
         Field::Answers | Field::List | Field::Reason | Field::Path => Vec::new(),
         Field::File => draw_file(random, net),
-        Field::Byte => vec![random.below(256) as u32],
+        Field::Byte => vec![random.below(256) as u64],
     }
 }
 
@@ -94,10 +102,10 @@ fn draw_plain(random: &mut Random, net: &Net) -> Vec<u32> {
 }
 
 /// The values of a table, now and then with some changed, one of them perhaps into a byte that is no value.
-fn spoilt(random: &mut Random, mut table: Vec<u32>) -> Vec<u32> {
+fn spoilt(random: &mut Random, mut table: Vec<u64>) -> Vec<u64> {
     if !table.is_empty() && random.chance(40) {
         for _ in 0..random.within(1, 3) {
-            let any = random.below(256) as u32;
+            let any = random.below(256) as u64;
             let at = random.below(table.len());
             table[at] = random.pick(&[0, 1, 2, 3, 0, 1, 2, 3, 4, any]);
         }
@@ -108,10 +116,10 @@ fn spoilt(random: &mut Random, mut table: Vec<u32>) -> Vec<u32> {
 /// What an operation of the archive gives for the net with all its origins, where its other list has so many places.
 fn run_on(net: &Net, operations: &[Operation], name: &str, places: usize) -> Outcome {
     let case = Case::filled(operations, name, |field| match field {
-        Field::Objects => vec![net.o],
-        Field::Kinds => vec![net.k],
-        Field::Words => net.words.clone(),
-        Field::Set => vec![ALL_ORIGINS],
+        Field::Objects => widened(&[net.o]),
+        Field::Kinds => widened(&[net.k]),
+        Field::Words => widened(&net.words),
+        Field::Set => widened(&[ALL_ORIGINS]),
         Field::Marks => vec![0; net.nodes()],
         _ => vec![0; places],
     });
@@ -119,7 +127,7 @@ fn run_on(net: &Net, operations: &[Operation], name: &str, places: usize) -> Out
 }
 
 /// All that a net of a few nodes supports, in descending order; nothing for another.
-fn completed(net: &Net, operations: &[Operation]) -> Vec<u32> {
+fn completed(net: &Net, operations: &[Operation]) -> Vec<u64> {
     let outcome = run_on(net, operations, "completion", 200);
     let size = match outcome.answer.number {
         0 => outcome.answer.first as usize,
@@ -145,7 +153,7 @@ fn fit_to_result(random: &mut Random, net: &Net, case: &mut Case) {
         .answer;
     let budget = draw_budget(random, answer.first, net.nodes() as u32);
     let needed = if answer.number == 8 { answer.first } else { 4 };
-    case.set(Field::Budget, vec![budget]);
+    case.set(Field::Budget, widened(&[budget]));
     for field in [Field::List, Field::Reason] {
         let size = draw_size(random, needed as usize);
         case.set(field, garbage(random, field, size));
@@ -153,13 +161,13 @@ fn fit_to_result(random: &mut Random, net: &Net, case: &mut Case) {
 }
 
 /// A list of garbage, at most as long as `readings` takes: any numbers, and in a long list runs of them.
-fn garbage(random: &mut Random, field: Field, size: usize) -> Vec<u32> {
+fn garbage(random: &mut Random, field: Field, size: usize) -> Vec<u64> {
     let shape = field.shape();
     let size = size.min(shape.most);
     let longest = 1 + size / 64;
     let mut list = Vec::with_capacity(size);
     while list.len() < size {
-        let number = random.next() as u32 >> (32 - 8 * shape.width);
+        let number = random.next() >> (64 - 8 * shape.width);
         let end = list.len() + random.within(1, longest);
         list.resize(end.min(size), number);
     }
@@ -299,7 +307,7 @@ fn draw_budget(random: &mut Random, count: u32, nodes: u32) -> u32 {
 }
 
 /// A net file with some questions, its bytes one by one, now and then damaged: one with a set of origins, or one of plain words.
-fn draw_file(random: &mut Random, net: &Net) -> Vec<u32> {
+fn draw_file(random: &mut Random, net: &Net) -> Vec<u64> {
     let with_set = random.chance(60);
     let words = if with_set {
         net.words.clone()
@@ -338,7 +346,7 @@ fn draw_file(random: &mut Random, net: &Net) -> Vec<u32> {
     }
     bodies.iter().for_each(|body| numbers.extend(body));
     let bytes = numbers.iter().flat_map(|number| number.to_le_bytes());
-    let mut file: Vec<u32> = bytes.map(u32::from).collect();
+    let mut file: Vec<u64> = bytes.map(u64::from).collect();
     if random.chance(20) {
         let any = random.below(file.len() + 1);
         let size = random.pick(&[

@@ -17,6 +17,10 @@ pub enum Field {
     Answers,
     Marks,
     List,
+    Yes,
+    No,
+    FilledYes,
+    FilledNo,
     Kept,
     Dropped,
     Table,
@@ -54,7 +58,7 @@ const fn shape(name: &'static str, field: Field, width: usize, most: usize, lent
     }
 }
 
-static SHAPES: [Shape; 24] = [
+static SHAPES: [Shape; 28] = [
     number("o", Field::Objects),
     number("k", Field::Kinds),
     shape("words", Field::Words, 4, 16_384, false),
@@ -70,6 +74,10 @@ static SHAPES: [Shape; 24] = [
     shape("answers", Field::Answers, 1, 2_048, true),
     shape("marks", Field::Marks, 1, 2_048, true),
     shape("list", Field::List, 4, 16_384, true),
+    shape("yes", Field::Yes, 8, 20_480, true),
+    shape("no", Field::No, 8, 20_480, true),
+    shape("filled_yes", Field::FilledYes, 8, 20_480, false),
+    shape("filled_no", Field::FilledNo, 8, 20_480, false),
     shape("kept", Field::Kept, 4, 16_384, true),
     shape("dropped", Field::Dropped, 4, 16_384, true),
     shape("table", Field::Table, 1, 32_768, true),

@@ -1,16 +1,23 @@
-//! Calls with more words than a case can have: the largest list that is allowed, and one word more. And the largest table of a valuation.
+//! Calls with more words than a case can have: the largest list that is allowed, and one word more. And the largest table of a valuation,
+//! and the largest rows.
 
 use crate::answer::Answer;
 use crate::call::{run, Outcome};
-use crate::case::Case;
+use crate::case::{widened, Case};
 use crate::draw::draw_case;
 use crate::fields::Field;
-use crate::nets::{draw_origin, plain, random_net, word, Net, ALL_ORIGINS, NODE_LIMIT, WORD_LIMIT};
+use crate::nets::{
+    draw_origin, plain, random_net, row_size, word, Net, ALL_ORIGINS, NODE_LIMIT, WORD_LIMIT,
+};
 use crate::operations::{Effort, Operation};
 use crate::random::Random;
 use crate::tally::Tally;
 
 const MEND: &str = "mend";
+const BY_ROWS: &str = "completion_by_rows";
+
+/// What places hold before a call.
+const GARBAGE: u64 = 0x5a5a_a5a5;
 
 /// The fields that are a net's words.
 const WORD_LISTS: [Field; 3] = [Field::Words, Field::Plain, Field::Links];
@@ -28,7 +35,7 @@ pub fn calls_at_limit(
             if answer.number == 15 && !operation.fields.contains(&Field::Set) {
                 continue;
             }
-            case.set(Field::Set, vec![set]);
+            case.set(Field::Set, widened(&[set]));
             let expected = Outcome::unchanged(&case, answer);
             hold(&case, &expected, tally)?;
         }
@@ -49,13 +56,17 @@ pub fn calls_at_limit(
             .iter_mut()
             .for_each(|word| *word += draw_origin(&mut random));
         let many = repeated(&mut random, &few);
-        let quick = |it: &&Operation| efforts.contains(&it.effort) && it.name != MEND;
+        let quick = |it: &&Operation| match it.name {
+            MEND => false,
+            BY_ROWS => true,
+            _ => efforts.contains(&it.effort),
+        };
         for operation in on_nets(operations).filter(quick) {
             let mut case = draw_case(&mut random, &many, operations, operation);
-            case.set(Field::Set, vec![random.below(16) as u32]);
+            case.set(Field::Set, vec![random.below(16) as u64]);
             case.set(Field::Links, without_origins(&many.words));
             let whole = case.clone();
-            case.set(Field::Words, few.words.clone());
+            case.set(Field::Words, widened(&few.words));
             case.set(Field::Links, without_origins(&few.words));
             let mut expected = run(&case, 0)?;
             if operation.fields.contains(&Field::Links) {
@@ -65,13 +76,14 @@ pub fn calls_at_limit(
         }
     }
     mend_clashing(operations, tally)?;
-    fill_largest_table(operations, tally)
+    fill_largest_table(operations, tally)?;
+    complete_longest_chain(operations, tally)
 }
 
 /// As many words as are allowed, none of which can be kept: what is kept is read again for every word, so that others would take
 /// too long. With a place less the call is number 8.
 fn mend_clashing(operations: &[Operation], tally: &mut Tally) -> Result<(), String> {
-    let clashing = word(0, 0, 1);
+    let clashing = word(0, 0, 1).into();
     for missing in [0, 1] {
         let case = Case::filled(operations, MEND, |field| match field {
             Field::Objects => vec![0],
@@ -103,18 +115,18 @@ fn fill_largest_table(operations: &[Operation], tally: &mut Tally) -> Result<(),
     words.push(word(LAST, 0, 1));
     let value = |x: usize, y: usize| {
         let (yes, no) = (y == x || y == LAST, x == 0 || y == 0);
-        yes as u32 + 2 * no as u32
+        yes as u64 + 2 * no as u64
     };
     let size = NODE_LIMIT * NODE_LIMIT;
     let values = (0..size).map(|at| value(at / NODE_LIMIT, at % NODE_LIMIT));
-    let mut filled: Vec<u32> = values.collect();
+    let mut filled: Vec<u64> = values.collect();
     filled.push(200);
     for length in [size + 1, size - 1] {
         let case = Case::filled(operations, "valuation", |field| match field {
             Field::Objects => vec![0],
-            Field::Kinds => vec![NODE_LIMIT as u32],
-            Field::Words => words.clone(),
-            Field::Set => vec![ALL_ORIGINS],
+            Field::Kinds => vec![NODE_LIMIT as u64],
+            Field::Words => widened(&words),
+            Field::Set => widened(&[ALL_ORIGINS]),
             Field::Table => vec![200; length],
             _ => vec![9; NODE_LIMIT + 1],
         });
@@ -133,7 +145,7 @@ fn fill_largest_table(operations: &[Operation], tally: &mut Tally) -> Result<(),
     let mut bad = filled.clone();
     bad[size - 1] = 4;
     let short = &filled[..size - 1];
-    let tests: [(&[u32], usize, usize, usize, Answer); 7] = [
+    let tests: [(&[u64], usize, usize, usize, Answer); 7] = [
         (&filled, 5, LAST, 0, Answer::new(0, 1, 0)),
         (&filled, 5, 0, 1, Answer::new(0, 1, 0)),
         (&filled, 0, LAST, 1, Answer::new(0, 1, 0)),
@@ -145,19 +157,97 @@ fn fill_largest_table(operations: &[Operation], tally: &mut Tally) -> Result<(),
     for (model, x, y, sign, answer) in tests {
         let case = Case::filled(operations, "satisfies", |field| match field {
             Field::Objects => vec![0],
-            Field::Kinds => vec![NODE_LIMIT as u32],
+            Field::Kinds => vec![NODE_LIMIT as u64],
             Field::Model => model.to_vec(),
-            Field::Node => vec![x as u32],
-            Field::Kind => vec![y as u32],
-            _ => vec![sign as u32],
+            Field::Node => vec![x as u64],
+            Field::Kind => vec![y as u64],
+            _ => vec![sign as u64],
         });
         hold(&case, &Outcome::unchanged(&case, answer), tally)?;
     }
     Ok(())
 }
 
-fn without_origins(words: &[u32]) -> Vec<u32> {
-    words.iter().map(|&word| plain(word)).collect()
+/// A chain of as many kinds as are allowed, whose last is not itself: a kind is itself and those after it, and it is not any kind.
+/// Rows that are enough, have a word behind them or have one too few, with a list that fits or does not; then questions to them.
+fn complete_longest_chain(operations: &[Operation], tally: &mut Tally) -> Result<(), String> {
+    const LAST: usize = NODE_LIMIT - 1;
+    let each = row_size(NODE_LIMIT);
+    let size = NODE_LIMIT * each;
+    let mut words: Vec<u32> = (0..LAST).map(|p| word(p, p + 1, 0)).collect();
+    words.push(word(LAST, LAST, 1));
+    let kinds = (0..NODE_LIMIT).flat_map(|x| (0..NODE_LIMIT).map(move |y| (x, y)));
+    let said = kinds.flat_map(|(x, y)| [(y >= x).then(|| word(x, y, 0)), Some(word(x, y, 1))]);
+    let list: Vec<u64> = said.flatten().map(u64::from).collect();
+    let row_word = |at: usize| {
+        let from_x = |t: &usize| at % each * 64 + t >= at / each;
+        (0..64).filter(from_x).fold(0, |bits, t| bits | 1u64 << t)
+    };
+    let yes: Vec<u64> = (0..size).map(row_word).collect();
+    let no = vec![u64::MAX; size];
+    let count = list.len();
+    let written = |front: &[u64], length: usize| {
+        let mut whole = front.to_vec();
+        whole.resize(length, GARBAGE);
+        whole
+    };
+    for (yes_len, no_len, list_len) in [
+        (size, size, count),
+        (size + 1, size + 2, count + 1),
+        (size, size, count - 1),
+        (size - 1, size, count),
+        (size, size - 1, count),
+    ] {
+        let case = Case::filled(operations, BY_ROWS, |field| match field {
+            Field::Objects => vec![0],
+            Field::Kinds => vec![NODE_LIMIT as u64],
+            Field::Words => widened(&words),
+            Field::Set => widened(&[ALL_ORIGINS]),
+            Field::Yes => vec![GARBAGE; yes_len],
+            Field::No => vec![GARBAGE; no_len],
+            _ => vec![GARBAGE; list_len],
+        });
+        let expected = if yes_len.min(no_len) < size {
+            Outcome::unchanged(&case, Answer::new(5, 0, 0))
+        } else {
+            let fits = list_len >= count;
+            let front: &[u64] = if fits { &list } else { &[] };
+            Outcome {
+                answer: Answer::new(if fits { 0 } else { 8 }, count as u32, 0),
+                lists: vec![
+                    written(&yes, yes_len),
+                    written(&no, no_len),
+                    written(front, list_len),
+                ],
+            }
+        };
+        hold(&case, &expected, tally)?;
+    }
+    let questions = [
+        (&yes[..], 0, LAST, Answer::new(0, 3, 0)),
+        (&yes, LAST, LAST, Answer::new(0, 3, 0)),
+        (&yes, LAST, 0, Answer::new(0, 2, 0)),
+        (&yes, 63, 64, Answer::new(0, 3, 0)),
+        (&yes, 64, 63, Answer::new(0, 2, 0)),
+        (&yes[..size - 1], 0, 0, Answer::new(5, 0, 0)),
+        (&yes, 0, NODE_LIMIT, Answer::new(4, 0, 0)),
+    ];
+    for (filled, x, y, answer) in questions {
+        let case = Case::filled(operations, "answer_in_rows", |field| match field {
+            Field::Objects => vec![0],
+            Field::Kinds => vec![NODE_LIMIT as u64],
+            Field::FilledYes => filled.to_vec(),
+            Field::FilledNo => no.clone(),
+            Field::Node => vec![x as u64],
+            _ => vec![y as u64],
+        });
+        hold(&case, &Outcome::unchanged(&case, answer), tally)?;
+    }
+    Ok(())
+}
+
+fn without_origins(words: &[u32]) -> Vec<u64> {
+    words.iter().map(|&word| plain(word).into()).collect()
 }
 
 fn on_nets(operations: &[Operation]) -> impl Iterator<Item = &Operation> {

@@ -29,6 +29,11 @@ impl Net {
         self.nodes() * (self.k as usize).min(NODE_LIMIT)
     }
 
+    /// The words of its rows of bits, where the net is not too large.
+    pub fn rows_size(&self) -> usize {
+        self.nodes() * row_size(self.nodes())
+    }
+
     /// A node that a chosen link of the sign leads to from a node: at the link's head, or at its tail where `back` holds.
     pub fn link_at(
         &self,
@@ -54,6 +59,11 @@ impl Net {
         }
         Some(ends(random.pick(&found)).1 as u32)
     }
+}
+
+/// The words of one row of bits.
+pub fn row_size(nodes: usize) -> usize {
+    (nodes + 63) / 64
 }
 
 /// A word's origin.

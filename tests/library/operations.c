@@ -35,6 +35,7 @@ struct operation {
 #define BYTES(i) (uint8_t *)fields[i].list, fields[i].length
 #define HALVES(i) (uint16_t *)fields[i].list, fields[i].length
 #define WORDS(i) (uint32_t *)fields[i].list, fields[i].length
+#define ROWS(i) (uint64_t *)fields[i].list, fields[i].length
 #define NET NUMBER(0), NUMBER(1), WORDS(2), NUMBER(3)
 
 /* Name, fields, outcomes, effort; then the arguments of the C function. */
@@ -51,6 +52,10 @@ struct operation {
       NET, HALVES(4), BYTES(5), BYTES(6))                                                       \
     _(completion, "o k words set marks list", "0 1 2 15 3 5 8", EVERY_NODE,                     \
       NET, BYTES(4), WORDS(5))                                                                  \
+    _(completion_by_rows, "o k words set yes no list", "0 1 2 15 3 5 8", EVERY_NODE,            \
+      NET, ROWS(4), ROWS(5), WORDS(6))                                                          \
+    _(answer_in_rows, "o k filled_yes filled_no node kind", "0=0 0=1 0=2 0=3 1 4 5", ONCE,      \
+      NUMBER(0), NUMBER(1), ROWS(2), ROWS(3), NUMBER(4), NUMBER(5))                             \
     _(clash, "o k words set marks", "0 1 2 15 3 5 7", EVERY_NODE,                               \
       NET, BYTES(4))                                                                            \
     _(compact, "o k links marks", "0 1 2 3 5", EVERY_WORD,                                      \

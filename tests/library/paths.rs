@@ -1,7 +1,7 @@
 //! Lists for the reason check: paths of the net, shortest and wandering, paths with something wrong, and no paths at all.
 
 use crate::call::run;
-use crate::case::Case;
+use crate::case::{widened, Case};
 use crate::fields::Field;
 use crate::nets::{Net, ALL_ORIGINS};
 use crate::operations::Operation;
@@ -10,7 +10,7 @@ use crate::random::Random;
 /// Puts a list into the case. Where it is a path, the statement asked is mostly the one that it shows. Its links are mostly
 /// chosen ones, and now and then of any origin.
 pub fn draw_path(random: &mut Random, net: &Net, operations: &[Operation], case: &mut Case) {
-    let chosen = case.values_of(Field::Set)[0];
+    let chosen = case.words_of(Field::Set)[0];
     let set = random.pick(&[chosen, chosen, chosen, ALL_ORIGINS]);
     let mut list = match random.below(11) {
         0 => {
@@ -30,7 +30,7 @@ pub fn draw_path(random: &mut Random, net: &Net, operations: &[Operation], case:
     if random.chance(45) {
         spoil(random, net, &mut list);
     }
-    case.set(Field::Path, list);
+    case.set(Field::Path, widened(&list));
 }
 
 fn any_place(random: &mut Random) -> u32 {
@@ -42,7 +42,7 @@ fn shortest(net: &Net, set: u32, operations: &[Operation], case: &Case) -> Vec<u
     let operation = operations.iter().find(|it| it.name == "reason");
     let operation = operation.expect("the archive gives reasons");
     let fill = |&field: &Field| match field {
-        Field::Set => vec![set],
+        Field::Set => widened(&[set]),
         Field::Scratch => vec![0; 2 * net.nodes()],
         Field::Reason => vec![0; 2 * net.nodes() + 3],
         _ => case.values_of(field).to_vec(),
@@ -52,13 +52,12 @@ fn shortest(net: &Net, set: u32, operations: &[Operation], case: &Case) -> Vec<u
         values: operation.fields.iter().map(fill).collect(),
     };
     let outcome = run(&asked, 0).expect("the archive keeps to its memory");
-    let mut list = outcome.lists[1].clone();
-    list.truncate(if outcome.answer.number == 0 {
-        outcome.answer.first as usize
-    } else {
-        3
-    });
-    list
+    let size = match outcome.answer.number {
+        0 => outcome.answer.first as usize,
+        _ => 3,
+    };
+    let list = outcome.lists[1].iter().take(size);
+    list.map(|&place| place as u32).collect()
 }
 
 /// A path along random links, with kinds repeated now and then, and mostly the statement that it shows.
@@ -96,9 +95,9 @@ fn without_first_part(random: &mut Random, net: &Net, set: u32, case: &mut Case)
 
 /// Asks for a statement.
 fn state(case: &mut Case, x: u32, y: u32, sign: u32) {
-    case.set(Field::Node, vec![x]);
-    case.set(Field::Kind, vec![y]);
-    case.set(Field::Sign, vec![sign]);
+    case.set(Field::Node, widened(&[x]));
+    case.set(Field::Kind, widened(&[y]));
+    case.set(Field::Sign, widened(&[sign]));
 }
 
 /// Up to seven more steps of one part.

@@ -4,13 +4,13 @@
 use std::collections::BTreeSet;
 
 use crate::call::Outcome;
-use crate::case::Case;
+use crate::case::{widened, Case};
 use crate::fields::Field;
-use crate::nets::{head_of, is_chosen, plain, tail_of, word, ALL_ORIGINS};
+use crate::nets::{head_of, is_chosen, plain, row_size, tail_of, word, ALL_ORIGINS};
 
 const SMALL_NET: usize = 7;
 /// The answer to a pair that is bad.
-const BAD_PAIR: u32 = 255;
+const BAD_PAIR: u64 = 255;
 
 /// The plain words of all statements that the chosen words of a legal net support.
 fn supported(o: usize, nodes: usize, words: &[u32], origins: u32) -> BTreeSet<u32> {
@@ -77,7 +77,7 @@ fn mended(o: usize, nodes: usize, words: &[u32]) -> (Vec<u32>, Vec<u32>) {
 }
 
 /// Whether a statement holds in a valuation of that shape, by (6.1) to (6.4) of the report.
-fn satisfied(o: usize, nodes: usize, model: &[u32], x: usize, y: usize, sign: usize) -> bool {
+fn satisfied(o: usize, nodes: usize, model: &[u64], x: usize, y: usize, sign: usize) -> bool {
     let value = |d: usize, p: usize| model[d * (nodes - o) + p - o];
     let is_true = |d, p| value(d, p) & 1 != 0;
     let is_false = |d, p| value(d, p) & 2 != 0;
@@ -92,6 +92,12 @@ fn satisfied(o: usize, nodes: usize, model: &[u32], x: usize, y: usize, sign: us
     }
 }
 
+/// What rows answer about x and y: 0 none, 1 yes, 2 no, 3 both.
+fn in_rows(yes: &[u64], no: &[u64], nodes: usize, x: usize, y: usize) -> u64 {
+    let bit = |rows: &[u64]| rows[x * row_size(nodes) + y / 64] >> (y % 64) & 1;
+    bit(yes) + 2 * bit(no)
+}
+
 /// The statements that the net of a small case supports.
 struct Supported {
     o: usize,
@@ -101,12 +107,11 @@ struct Supported {
 
 impl Supported {
     /// What the rules answer to a question: 0 none, 1 yes, 2 no, 3 both. No answer where x is no node or y no kind.
-    fn word(&self, x: u32, y: u32) -> Option<u32> {
-        let (x, y) = (x as usize, y as usize);
+    fn word(&self, x: usize, y: usize) -> Option<u64> {
         if x >= self.nodes || !(self.o..self.nodes).contains(&y) {
             return None;
         }
-        let holds = |sign| self.set.contains(&word(x, y, sign)) as u32;
+        let holds = |sign| self.set.contains(&word(x, y, sign)) as u64;
         Some(holds(0) + 2 * holds(1))
     }
 }
@@ -120,35 +125,52 @@ pub fn held_to_rules(case: &Case, found: &Outcome) -> Result<bool, String> {
         return Ok(false);
     }
     let origins = number(Field::Set) as u32;
-    let set = supported(o, nodes, case.values_of(Field::Words), origins);
+    let set = supported(o, nodes, &case.words_of(Field::Words), origins);
     let net = Supported { o, nodes, set };
     let holds = match case.operation.name {
         "question" => {
-            let asked = net.word(number(Field::Node) as u32, number(Field::Kind) as u32);
-            asked == Some(found.answer.first)
+            let asked = net.word(number(Field::Node), number(Field::Kind));
+            asked == Some(found.answer.first.into())
         }
         "questions" => {
             let pairs = case.values_of(Field::Pairs).chunks(2);
-            let words = pairs.map(|pair| net.word(pair[0], pair[1]).unwrap_or(BAD_PAIR));
+            let words = pairs.map(|pair| {
+                net.word(pair[0] as usize, pair[1] as usize)
+                    .unwrap_or(BAD_PAIR)
+            });
             words.zip(&found.lists[0]).all(|(word, &byte)| word == byte)
         }
         "compact" => {
-            let left = compacted(o, nodes, case.values_of(Field::Links));
-            let size = found.lists[0].len();
-            let freed = std::iter::repeat(&0).take(size - left.len());
-            left.iter().chain(freed).eq(&found.lists[0])
+            let left = compacted(o, nodes, &case.words_of(Field::Links));
+            let mut list: Vec<u64> = left.into_iter().map(u64::from).collect();
+            list.resize(found.lists[0].len(), 0);
+            list == found.lists[0]
         }
         "mend" => {
-            let (kept, dropped) = mended(o, nodes, case.values_of(Field::Plain));
+            let (kept, dropped) = mended(o, nodes, &case.words_of(Field::Plain));
             found.answer.first as usize == kept.len()
                 && found.answer.second as usize == dropped.len() / 3
-                && found.lists[0].starts_with(&kept)
-                && found.lists[1].starts_with(&dropped)
+                && found.lists[0].starts_with(&widened(&kept))
+                && found.lists[1].starts_with(&widened(&dropped))
+        }
+        "completion_by_rows" => {
+            let words: Vec<u32> = net.set.iter().copied().collect();
+            let (yes, no, list) = (&found.lists[0], &found.lists[1], &found.lists[2]);
+            let bits = 0..64 * row_size(nodes);
+            let mut places = (0..nodes).flat_map(|x| bits.clone().map(move |y| (x, y)));
+            found.answer.first as usize == words.len()
+                && list.starts_with(&widened(&words))
+                && places.all(|(x, y)| in_rows(yes, no, nodes, x, y) == net.word(x, y).unwrap_or(0))
+        }
+        "answer_in_rows" => {
+            let [x, y] = [Field::Node, Field::Kind].map(number);
+            let [yes, no] = [Field::FilledYes, Field::FilledNo].map(|rows| case.values_of(rows));
+            in_rows(yes, no, nodes, x, y) == found.answer.first.into()
         }
         "valuation" => {
             let kinds = (o..nodes).collect::<Vec<usize>>();
             let cells = (0..nodes).flat_map(|x| kinds.iter().map(move |&y| (x, y)));
-            let words = cells.map(|(x, y)| net.word(x as u32, y as u32));
+            let words = cells.map(|(x, y)| net.word(x, y));
             words
                 .zip(&found.lists[0])
                 .all(|(word, &byte)| word == Some(byte))

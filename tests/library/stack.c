@@ -46,6 +46,8 @@ static uint8_t table[STRUMELKA_TABLE(OBJECTS, KINDS)];
 static uint8_t marks[OBJECTS + KINDS];
 static uint32_t list[4096];
 static uint16_t scratch[2 * (OBJECTS + KINDS)];
+static uint64_t yes[STRUMELKA_ROWS(OBJECTS, KINDS)];
+static uint64_t no[STRUMELKA_ROWS(OBJECTS, KINDS)];
 static uint16_t reason[16];
 
 /* What is handed over for each kind of field. */
@@ -64,6 +66,10 @@ static const struct {
     {"budget", {UINT32_MAX, NULL, 0}},
     {"marks", {0, marks, COUNT(marks)}},
     {"list", {0, list, COUNT(list)}},
+    {"yes", {0, yes, COUNT(yes)}},
+    {"no", {0, no, COUNT(no)}},
+    {"filled_yes", {0, yes, COUNT(yes)}},
+    {"filled_no", {0, no, COUNT(no)}},
     {"scratch", {0, scratch, COUNT(scratch)}},
     {"reason", {0, reason, COUNT(reason)}},
     {"path", {0, path, COUNT(path)}},
@@ -160,7 +166,7 @@ int main(void)
         /* A reason has no limit. */
         int limited = strcmp(operation->name, "reason") != 0;
         int over = limited && bytes > STACK_LIMIT;
-        printf("%-12s %5zu bytes%s\n", operation->name, bytes, over ? ", over the limit" : limited ? "" : ", no limit");
+        printf("%-18s %5zu bytes%s\n", operation->name, bytes, over ? ", over the limit" : limited ? "" : ", no limit");
         if (answer[0] != 0) {
             printf("%s: refused with %u\n", operation->name, (unsigned)answer[0]);
             return 1;

@@ -69,7 +69,7 @@ impl<'a> Tally<'a> {
             let parts: Vec<String> = pairs
                 .map(|(met, count)| format!("{}: {}", met.text(), count))
                 .collect();
-            println!("{:14}{}", operation.name, parts.join("  "));
+            println!("{:20}{}", operation.name, parts.join("  "));
         }
     }
 }

@@ -6,20 +6,11 @@ use mathlib.Core.List.{List, [], _∷_, _++_}
 use native.Mathlib.Omega.{arith}
 use lib.ListN.{length, set}
 use Rattle.theory_laws.specs.Over.{over}
+use Rattle.theory_laws.proofs.Over.{put-one, put-two}
 use Rattle.theory.specs.Words.{is, isnt, word}
 use Rattle.theory.specs.Marks.{saysYes, saysNo}
 use Rattle.theory.specs.Completion.{cell}
 use Rattle.theory.proofs.machine.Bytes.{has-U, no-U, has-F, no-F}
-
--- One value, or two, written over the front of a list.
-put-one : (l : List ℕ) (v : ℕ) → 1 ≤ length l → set l 0 v ≡ over (v ∷ []) l
-put-one [] v h = absurd (omega arith)
-put-one (a ∷ l) v h = refl
-
-put-two : (l : List ℕ) (v w : ℕ) → 2 ≤ length l → set (set l 0 v) 1 w ≡ over (v ∷ w ∷ []) l
-put-two [] v w h = absurd (omega arith)
-put-two (a ∷ []) v w h = absurd (omega arith)
-put-two (a ∷ b ∷ l) v w h = refl
 
 both-length : (p q : Bool) (v w : ℕ) → length (cond p (v ∷ []) [] ++ cond q (w ∷ []) []) ≡ cond p 1 0 + cond q 1 0
 both-length true true v w = refl

@@ -1,6 +1,7 @@
--- The reply of what each operation leaves, and that the values of the clash test and of the completion fit into 32 bits.
+-- The reply of what each operation leaves, and that the values of the clash test and of both completions fit into 32 bits.
 use Prim.Native.Nat.{ℕ, zero, suc, _+_, _≤_, _<_}
 use mathlib.Core.Path.{refl}
+use mathlib.Core.Bool.{_||_}
 use mathlib.Core.List.{List}
 use native.Mathlib.Omega.{arith}
 use borrow.Author.Tests.{ltb-true}
@@ -9,6 +10,7 @@ use lib.ListN.{length}
 use Rattle.theory.specs.Nets.{Net}
 use Rattle.theory.specs.Origins.{chosen}
 use Rattle.theory.specs.Completion.{fullMarks, complete}
+use Rattle.theory.specs.Rows.{rowsSize}
 use Rattle.theory.proofs.completion.Demand3.{complete-net}
 use Rattle.net.specs.Table.{Reply}
 use Rattle.net.proofs.NetCheck.{chosen-checked}
@@ -24,6 +26,7 @@ use Rattle.compact.specs.Table.{CompactionOutcome, compactedReply}
 use Rattle.mend.specs.Table.{MendingOutcome, mendedReply}
 use Rattle.reason.specs.Table.{ReasonOutcome, reasonedReply}
 use Rattle.valuation.specs.Table.{ValuationOutcome, filledReply}
+use Rattle.rows_completion.specs.Table.{RowsOutcome, rowsOutcome, rowsClauses, rowsDone, completedByRows}
 use Rattle.library_reply.specs.Fits.{Fits}
 use Rattle.library_reply.proofs.Fitting.{either, fits, bare, table-fits}
 
@@ -88,11 +91,14 @@ clash-fits o k ws set m =
 abbrev pub completionGives : CompletionOutcome → Reply
 completionGives s = completedReply (s .answer)
 
--- The completion: its words are at most as many as a net may have.
+-- Its words are at most as many as a net may have.
+few-words : (o k : ℕ) (ws : List ℕ) → Net o k ws → length (complete o k ws) < 4294967296
+few-words o k ws net = omega (arith, complete-net o k ws net .short)
+
 module _ (o k : ℕ) (ws m l : List ℕ) where
   completion-net-fits : (n : ℕ) → Net o k ws → Fits (completionGives (call (completionClauses (complete o k ws) m l n) (completionDone (complete o k ws) m l n)))
   completion-net-fits n net =
-      let low : length (complete o k ws) < 4294967296 = omega (arith, complete-net o k ws net .short) in
+      let low = few-words o k ws net in
       either completionGives (ltb (length m) n) (λ _. bare)
       (λ _. either completionGives (ltb (length l) (length (complete o k ws))) (λ _. fits low (omega arith)) (λ _. fits low (omega arith)))
 
@@ -100,3 +106,21 @@ pub completion-fits : (o k : ℕ) (ws : List ℕ) (set : ℕ) (m l : List ℕ) �
 completion-fits o k ws set m l =
     table-fits o k ws set completionGives (λ r. completionOutcome (completed.Refused r) m l) (completionClauses (complete o k (chosen set ws)) m l) (completionDone (complete o k (chosen set ws)) m l) (λ r. refl)
     (λ n e. completion-net-fits o k (chosen set ws) m l n (chosen-checked o k ws set e .2))
+
+-- ── the completion by rows ──
+
+-- The reply of what a completion by rows leaves.
+abbrev pub rowsGives : RowsOutcome → Reply
+rowsGives s = completedReply (s .answer)
+
+module _ (o k : ℕ) (ws yeses noes l : List ℕ) where
+  rows-net-fits : (n : ℕ) → Net o k ws → Fits (rowsGives (call (rowsClauses o k ws yeses noes l n) (rowsDone o k ws yeses noes l n)))
+  rows-net-fits n net =
+      let low = few-words o k ws net in
+      either rowsGives (ltb (length yeses) (rowsSize n) || ltb (length noes) (rowsSize n)) (λ _. bare)
+      (λ _. either rowsGives (ltb (length l) (length (complete o k ws))) (λ _. fits low (omega arith)) (λ _. fits low (omega arith)))
+
+pub rows-fits : (o k : ℕ) (ws : List ℕ) (set : ℕ) (yeses noes l : List ℕ) → Fits (completedReply (completedByRows o k ws set yeses noes l .answer))
+rows-fits o k ws set yeses noes l =
+    table-fits o k ws set rowsGives (λ r. rowsOutcome (completed.Refused r) yeses noes l) (rowsClauses o k (chosen set ws) yeses noes l) (rowsDone o k (chosen set ws) yeses noes l) (λ r. refl)
+    (λ n e. rows-net-fits o k (chosen set ws) yeses noes l n (chosen-checked o k ws set e .2))

@@ -1,4 +1,5 @@
-// The answers of scan, question, screenful of questions, clash test, completion, compaction, mending, reason, reason check, valuation and its test, each as a reply.
+// The answers of scan, question, screenful of questions, clash test, completion, compaction, mending, reason, reason check, valuation
+// and its test, and question of rows, each as a reply. That of a completion by rows is a completion's.
 ghost use mathlib.Core.Path.{_≡_};
 ghost use Rattle.scan.specs.Table.{scanReply};
 ghost use Rattle.question.specs.Table.{askedReply};
@@ -11,6 +12,7 @@ ghost use Rattle.reason.specs.Table.{reasonedReply};
 ghost use Rattle.reason_check.specs.Table.{verdictReply};
 ghost use Rattle.valuation.specs.Table.{filledReply};
 ghost use Rattle.satisfies.specs.Table.{testedReply};
+ghost use Rattle.rows_answer.specs.Table.{answeredReply};
 ghost use Rattle.library_reply.specs.Fits.{Fits};
 use clash::Clashed;
 use compact::CompactedList;
@@ -24,6 +26,7 @@ use question::answer_number;
 use questions::AskedAll;
 use reason::Reasoned;
 use reason_check::Verdict;
+use rows_answer::Answered;
 use satisfies::Tested;
 use scan::Scanned;
 use valuation::Filled;
@@ -148,5 +151,15 @@ pub fn tested_given(tested: Tested) -> Reply
         Tested::Fails => reply_of(0, 0, 0),
         Tested::BadTable => reply_of(13, 0, 0),
         Tested::Refused(refusal) => refusal_given(refusal),
+    }
+}
+
+// The reply of a question of rows.
+pub fn answered_given(answered: Answered) -> Reply
+    ensures { λ r. ⌜ r ≡ answeredReply answered ⌝ }
+{
+    match answered {
+        Answered::Done(answer) => reply_of(0, answer_number(answer) as u32, 0),
+        Answered::Refused(refusal) => refusal_given(refusal),
     }
 }

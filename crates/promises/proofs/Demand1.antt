@@ -31,6 +31,9 @@ use Rattle.valuation.specs.Values.{ownValues}
 use Rattle.valuation.specs.Table.{valuationTable, valuationDone, filledBy}
 use Rattle.satisfies.specs.Table.{satisfiesTable, satisfiesDone, testedBy}
 use Rattle.satisfies.specs.declared.Tested.the-variants as tested
+use Rattle.rows_completion.specs.Table.{rowsTable, rowsDone, completedByRows}
+use Rattle.rows_answer.specs.Table.{answerInRows, answerTable, answeredInRows}
+use Rattle.rows_answer.specs.declared.Answered.the-variants as answered
 use Rattle.promises.specs.Tables.{Obeys}
 use Rattle.net.specs.Table.{netTable, netDone}
 use Rattle.scan.specs.Table.{scanTable, scanDone}
@@ -38,7 +41,7 @@ use Rattle.question.specs.Table.{questionTable, questionDone}
 use Rattle.questions.specs.Table.{questionsTable, questionsDone, questionedAll}
 use Rattle.netfile.specs.Table.{readFrom, fileTable, fileDone}
 use Rattle.netfile.proofs.Called.{file-called}
-use Rattle.promises.specs.Numbers.{wordNumber, checkedNumber, scanNumber, questionNumber, clashNumber, completionNumber, reasonNumber, verdictNumber, questionsNumber, compactionNumber, mendingNumber, valuationNumber, satisfiesNumber, fileNumber}
+use Rattle.promises.specs.Numbers.{wordNumber, checkedNumber, scanNumber, questionNumber, clashNumber, completionNumber, reasonNumber, verdictNumber, questionsNumber, compactionNumber, mendingNumber, valuationNumber, satisfiesNumber, rowsNumber, answerInRowsNumber, fileNumber}
 use Rattle.promises.specs.Engines.{ours}
 use Rattle.promises.specs.Demand1.{Demand1}
 use Rattle.promises.proofs.Deciding.{obeys}
@@ -123,6 +126,12 @@ module _ (o k : ℕ) (ws : List ℕ) (set : ℕ) where
       obeys valuationNumber _ _ (record { numbered = (refl, (refl, (refl, (refl, (refl, (refl, tt)))))); once = refl; nonzero = refl; zero = λ h. refl }) _
       refl
 
+  -- The completion by rows: numbers 1, 2, 15, 3, 5 and 8, or 0.
+  pub rows-obeys : (yeses noes l : List ℕ) → Obeys rowsNumber (rowsTable o k ws set yeses noes l) (rowsDone o k (chosen set ws) yeses noes l (o + k)) (completedByRows o k ws set yeses noes l)
+  rows-obeys yeses noes l =
+      obeys rowsNumber _ _ (record { numbered = (refl, (refl, (refl, (refl, (refl, (refl, tt)))))); once = refl; nonzero = refl; zero = λ h. refl }) _
+      refl
+
 -- The compaction: numbers 1 to 3 and 5, or 0.
 pub compaction-obeys : (o k : ℕ) (ws m : List ℕ) → Obeys compactionNumber (compactionTable o k ws m) (compactionDone (compacted o k ws) ws m (o + k)) (compactedBy o k ws m)
 compaction-obeys o k ws m =
@@ -140,6 +149,13 @@ mending-obeys o k ws kept dropped m =
 pub satisfies-obeys : (o k : ℕ) (t : List ℕ) (x y sign : ℕ) → Obeys satisfiesNumber (satisfiesTable o k t x y sign) (satisfiesDone o k t x y sign) (testedBy o k t x y sign)
 satisfies-obeys o k t x y sign =
     obeys satisfiesNumber _ _ (record { numbered = (refl, (refl, (refl, tt))); once = refl; nonzero = refl; zero = λ h. tested-done (satisfies o k t x y (signAt sign)) }) _
+    refl
+
+-- The question of rows: numbers 1, 4 and 5, or 0.
+pub answer-in-rows-obeys : (o k : ℕ) (yeses noes : List ℕ) (x y : ℕ)
+    → Obeys answerInRowsNumber (answerTable o k yeses noes x y) (answered.Done (answerInRows (o + k) yeses noes x y)) (answeredInRows o k yeses noes x y)
+answer-in-rows-obeys o k yeses noes x y =
+    obeys answerInRowsNumber _ _ (record { numbered = (refl, (refl, (refl, tt))); once = refl; nonzero = refl; zero = λ h. refl }) _
     refl
 
 -- The file reader: 9, or 0.
@@ -164,4 +180,6 @@ demand-1 = record {
   mending = mending-obeys;
   valuation = valuation-obeys;
   satisfies = satisfies-obeys;
+  completionByRows = rows-obeys;
+  answerInRows = answer-in-rows-obeys;
 }

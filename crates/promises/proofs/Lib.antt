@@ -15,9 +15,12 @@ pub mod PlainQuestions
 pub mod AskingAll
 pub mod PlainLists
 pub mod PlainValued
+pub mod PlainRows
 pub mod Valuing
+pub mod ByRows
 pub mod Reordered
 pub mod ReorderedValues
+pub mod ReorderedRows
 pub mod NetAnswers
 pub mod Demand3
 pub mod FromKind

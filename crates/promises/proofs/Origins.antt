@@ -18,6 +18,7 @@ use Rattle.promises.proofs.Tests.{chosen-of}
 use Rattle.promises.proofs.Orders.{scan-order, question-order, questions-order}
 use Rattle.promises.proofs.Reordered.{completion-order, clash-order, reason-order, check-order}
 use Rattle.promises.proofs.ReorderedValues.{valuation-order}
+use Rattle.promises.proofs.ReorderedRows.{rows-order}
 use Rattle.promises.proofs.NetAnswers.{keeps-said}
 use Rattle.promises.proofs.Demand3.{plain-read}
 
@@ -33,6 +34,7 @@ same-operations o k ws set vs set′ n p to back = record {
   reasonCheck = check-order o k ws set vs set′ n p to back;
   questions = questions-order o k ws set vs set′ n p to back;
   valuation = valuation-order o k ws set vs set′ n p to back;
+  completionByRows = rows-order o k ws set vs set′ n p to back;
 }
 
 -- A net without its second word is a net.

@@ -200,6 +200,17 @@ module _ (o k : ℕ) (ws : List ℕ) (set : ℕ) (m : List ℕ) where
 
 -- ── the completion ──
 
+-- Where `out` are the words that a net supports, the list is too short for them, or has room.
+module _ (o k : ℕ) (ws out : List ℕ) (words : Lists o k ws out) (l : List ℕ) (n : Net o k ws) where
+  size : length (complete o k ws) ≡ length out
+  size = ap (length {A = ℕ}) (lists-unique o k ws (complete o k ws) out (complete-lists o k ws n) words)
+
+  pub list-short : (ltb (length l) (length (complete o k ws)) ≡ true) ↔ (length l < length out)
+  list-short = subst (λ (i : ℕ). (ltb (length l) (length (complete o k ws)) ≡ true) ↔ (length l < i)) size (clause-8 l (complete o k ws))
+
+  pub list-room : (ltb (length l) (length (complete o k ws)) ≡ false) ↔ (length out ≤ length l)
+  list-room = subst (λ (i : ℕ). (ltb (length l) (length (complete o k ws)) ≡ false) ↔ (i ≤ length l)) size (at-least (length l) (length (complete o k ws)))
+
 module _ (o k : ℕ) (ws : List ℕ) (set : ℕ) (m l : List ℕ) where
   -- 1, 2, 15 and 3 as of a scan.
   pub completion-1 : (completionNumber (completedBy o k ws set m l) ≡ 1) ↔ (1024 < o + k)
@@ -221,19 +232,12 @@ module _ (o k : ℕ) (ws : List ℕ) (set : ℕ) (m l : List ℕ) where
 
   -- The supported words are those of `out`.
   module _ (out : List ℕ) (words : Lists o k (chosen set ws) out) where
-    size : Net o k (chosen set ws) → length (complete o k (chosen set ws)) ≡ length out
-    size n = ap (length {A = ℕ}) (lists-unique o k (chosen set ws) (complete o k (chosen set ws)) out (complete-lists o k (chosen set ws) n) words)
-
     -- 8: over a net and with marks long enough, the list is shorter than the supported words.
     pub completion-8 : (completionNumber (completedBy o k ws set m l) ≡ 8) ↔ (Read o k ws set × ((o + k ≤ length m) × (length l < length out)))
-    completion-8 = then (completion-obeys o k ws set m l .exactly 8) (over-net o k ws set (λ n. both (at-least (length m) (o + k)) (short n)))
-      where
-        short : Net o k (chosen set ws) → (ltb (length l) (length (complete o k (chosen set ws))) ≡ true) ↔ (length l < length out)
-        short n = subst (λ (i : ℕ). (ltb (length l) (length (complete o k (chosen set ws))) ≡ true) ↔ (length l < i)) (size n) (clause-8 l (complete o k (chosen set ws)))
+    completion-8 = then (completion-obeys o k ws set m l .exactly 8) (over-net o k ws set (λ n. both (at-least (length m) (o + k)) (list-short o k (chosen set ws) out words l n)))
 
     -- 0: over a net, both have room for what goes there.
     pub completion-0 : (completionNumber (completedBy o k ws set m l) ≡ 0) ↔ (Read o k ws set × ((o + k ≤ length m) × (length out ≤ length l)))
-    completion-0 = then (completion-obeys o k ws set m l .exactly 0) (over-net o k ws set (λ n. both (at-least (length m) (o + k)) (first-only (room n))))
-      where
-        room : Net o k (chosen set ws) → (ltb (length l) (length (complete o k (chosen set ws))) ≡ false) ↔ (length out ≤ length l)
-        room n = subst (λ (i : ℕ). (ltb (length l) (length (complete o k (chosen set ws))) ≡ false) ↔ (i ≤ length l)) (size n) (at-least (length l) (length (complete o k (chosen set ws))))
+    completion-0 =
+        then (completion-obeys o k ws set m l .exactly 0)
+        (over-net o k ws set (λ n. both (at-least (length m) (o + k)) (first-only (list-room o k (chosen set ws) out words l n))))

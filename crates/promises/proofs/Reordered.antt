@@ -63,7 +63,7 @@ module _ (o k : ℕ) (ws vs : List ℕ) (n : Net o k ws) (p : Net o k vs) (to : 
   rows-same x zero h = refl
   rows-same x (suc j) h = rw (full-same x (omega arith), rows-same (suc x) j (omega arith))
 
-  complete-same : complete o k ws ≡ complete o k vs
+  pub complete-same : complete o k ws ≡ complete o k vs
   unfolding complete
   complete-same = rows-same 0 (o + k) (omega arith)
 

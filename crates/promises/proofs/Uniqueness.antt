@@ -30,6 +30,9 @@ use Rattle.valuation.specs.Table.{ValuationOutcome, valuationOutcome, filledBy}
 use Rattle.valuation.specs.declared.Filled.{Filled}
 use Rattle.satisfies.specs.Table.{testedBy}
 use Rattle.satisfies.specs.declared.Tested.{Tested}
+use Rattle.rows_completion.specs.Table.{RowsOutcome, rowsOutcome, completedByRows}
+use Rattle.rows_answer.specs.Table.{answeredInRows}
+use Rattle.rows_answer.specs.declared.Answered.{Answered}
 use Rattle.netfile.specs.Contents.{contentsOf, bodiesOf}
 use Rattle.netfile.specs.declared.Contents.{Contents}
 use Rattle.ask_text.specs.Text.{textOf}
@@ -98,6 +101,17 @@ module _ (o k : ℕ) (ws : List ℕ) (set : ℕ) where
   valuation-unique table marks r q m l c d e f =
       let p = both-are (valuationOutcome r m c) (valuationOutcome q l d) e f in
       (ap (λ (s : ValuationOutcome). s .answer) p, ap (λ (s : ValuationOutcome). s .table) p, ap (λ (s : ValuationOutcome). s .marks) p)
+
+  -- The completion by rows: m and l the yes rows, c and d the no rows, a and b the lists left.
+  pub completion-by-rows-unique : (yeses noes list : List ℕ) (r q : Completed) (m l c d a b : List ℕ)
+      → rowsOutcome r m c a ≡ completedByRows o k ws set yeses noes list → rowsOutcome q l d b ≡ completedByRows o k ws set yeses noes list → (r ≡ q) × (m ≡ l) × (c ≡ d) × (a ≡ b)
+  completion-by-rows-unique yeses noes list r q m l c d a b e f =
+      let p = both-are (rowsOutcome r m c a) (rowsOutcome q l d b) e f in
+      (ap (λ (s : RowsOutcome). s .answer) p, ap (λ (s : RowsOutcome). s .yeses) p, ap (λ (s : RowsOutcome). s .noes) p, ap (λ (s : RowsOutcome). s .list) p)
+
+-- The question of rows, which is lent nothing to write to.
+pub answer-in-rows-unique : (o k : ℕ) (yeses noes : List ℕ) (x y : ℕ) (r q : Answered) → r ≡ answeredInRows o k yeses noes x y → q ≡ answeredInRows o k yeses noes x y → r ≡ q
+answer-in-rows-unique o k yeses noes x y r q e f = both-are r q e f
 
 -- The test of a statement in a valuation, which is lent nothing to write to.
 pub satisfies-unique : (o k : ℕ) (table : List ℕ) (x y sign : ℕ) (r q : Tested) → r ≡ testedBy o k table x y sign → q ≡ testedBy o k table x y sign → r ≡ q

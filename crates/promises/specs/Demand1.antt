@@ -1,4 +1,5 @@
--- Demand 1: whatever numbers and buffers it is lent, each operation on a word, a net or a table gives the number that is due by its table and leaves each buffer as that clause says.
+-- Demand 1: whatever numbers and buffers it is lent, each operation on a word, a net, a table or rows gives the number that is due by its table and
+-- leaves each buffer as that clause says.
 use Prim.Native.Nat.{ℕ, _+_}
 use mathlib.Core.List.{List, []}
 use Rattle.promises.specs.Tables.{Obeys}
@@ -18,11 +19,13 @@ use Rattle.compact.specs.Table.{compactionTable, compactionDone}
 use Rattle.mend.specs.Table.{mendingTable, mendingDone}
 use Rattle.reason.specs.Table.{reasonTable, reasonDone}
 use Rattle.reason_check.specs.Table.{checkTable, checkDone}
-use Rattle.promises.specs.Numbers.{wordNumber, checkedNumber, scanNumber, questionNumber, clashNumber, completionNumber, reasonNumber, verdictNumber, questionsNumber, compactionNumber, mendingNumber}
 use Rattle.valuation.specs.Values.{ownValues}
 use Rattle.valuation.specs.Table.{valuationTable, valuationDone}
 use Rattle.satisfies.specs.Table.{satisfiesTable, satisfiesDone}
-use Rattle.promises.specs.Numbers.{wordNumber, checkedNumber, scanNumber, questionNumber, clashNumber, completionNumber, reasonNumber, verdictNumber, valuationNumber, satisfiesNumber}
+use Rattle.rows_completion.specs.Table.{rowsTable, rowsDone}
+use Rattle.rows_answer.specs.Table.{answerInRows, answerTable}
+use Rattle.rows_answer.specs.declared.Answered.the-variants as answered
+use Rattle.promises.specs.Numbers.{wordNumber, checkedNumber, scanNumber, questionNumber, clashNumber, completionNumber, reasonNumber, verdictNumber, questionsNumber, compactionNumber, mendingNumber, valuationNumber, satisfiesNumber, rowsNumber, answerInRowsNumber}
 use Rattle.promises.specs.Engines.{Engine}
 
 pub record Demand1 (e : Engine) : Type 0 where
@@ -48,3 +51,7 @@ pub record Demand1 (e : Engine) : Type 0 where
   pub valuation : (o k : ℕ) (ws : List ℕ) (set : ℕ) (t m : List ℕ)
       → Obeys valuationNumber (valuationTable o k ws set t m) (valuationDone (ownValues o k (chosen set ws)) t m (o + k)) (e .valuation o k ws set t m)
   pub satisfies : (o k : ℕ) (t : List ℕ) (x y sign : ℕ) → Obeys satisfiesNumber (satisfiesTable o k t x y sign) (satisfiesDone o k t x y sign) (e .satisfies o k t x y sign)
+  pub completionByRows : (o k : ℕ) (ws : List ℕ) (set : ℕ) (yeses noes l : List ℕ)
+      → Obeys rowsNumber (rowsTable o k ws set yeses noes l) (rowsDone o k (chosen set ws) yeses noes l (o + k)) (e .completionByRows o k ws set yeses noes l)
+  pub answerInRows : (o k : ℕ) (yeses noes : List ℕ) (x y : ℕ)
+      → Obeys answerInRowsNumber (answerTable o k yeses noes x y) (answered.Done (answerInRows (o + k) yeses noes x y)) (e .answerInRows o k yeses noes x y)

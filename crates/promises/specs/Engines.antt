@@ -27,9 +27,13 @@ use Rattle.reason_check.specs.declared.Verdict.{Verdict}
 use Rattle.valuation.specs.Table.{ValuationOutcome, filledBy}
 use Rattle.satisfies.specs.Table.{testedBy}
 use Rattle.satisfies.specs.declared.Tested.{Tested}
+use Rattle.rows_completion.specs.Table.{RowsOutcome, completedByRows}
+use Rattle.rows_answer.specs.Table.{answeredInRows}
+use Rattle.rows_answer.specs.declared.Answered.{Answered}
 
 -- The operations, the test of a word first, each over objects, kinds, words, a set of origins, what is asked, and the lent buffers as they are at entry.
--- Compaction and mending read a plain list and no set; what is compacted is lent to be written.
+-- Compaction and mending read a plain list and no set; what is compacted is lent to be written. The test of a statement reads a table and no words,
+-- the question of rows the rows.
 pub record Engine : Type 0 where
   pub wordCheck : ℕ → ℕ → ℕ → WordChecked
   pub netCheck : ℕ → ℕ → List ℕ → ℕ → Checked
@@ -44,6 +48,8 @@ pub record Engine : Type 0 where
   pub mending : ℕ → ℕ → List ℕ → List ℕ → List ℕ → List ℕ → MendingOutcome
   pub valuation : ℕ → ℕ → List ℕ → ℕ → List ℕ → List ℕ → ValuationOutcome
   pub satisfies : ℕ → ℕ → List ℕ → ℕ → ℕ → ℕ → Tested
+  pub completionByRows : ℕ → ℕ → List ℕ → ℕ → List ℕ → List ℕ → List ℕ → RowsOutcome
+  pub answerInRows : ℕ → ℕ → List ℕ → List ℕ → ℕ → ℕ → Answered
 
 -- A net whose words have origins, and a set of origins to read it with.
 pub record Read (o k : ℕ) (ws : List ℕ) (set : ℕ) : Type 0 where
@@ -71,6 +77,8 @@ ours = record {
   mending = mendedBy;
   valuation = filledBy;
   satisfies = testedBy;
+  completionByRows = completedByRows;
+  answerInRows = answeredInRows;
 }
 
 -- What a scan leaves, done or spent, with the bytes `past` behind its marks.
@@ -103,6 +111,8 @@ withScan f = record {
   mending = ours .mending;
   valuation = ours .valuation;
   satisfies = ours .satisfies;
+  completionByRows = ours .completionByRows;
+  answerInRows = ours .answerInRows;
 }
 
 abbrev pub withQuestion : (ℕ → ℕ → List ℕ → ℕ → ℕ → ℕ → List ℕ → QuestionOutcome) → Engine
@@ -120,6 +130,8 @@ withQuestion f = record {
   mending = ours .mending;
   valuation = ours .valuation;
   satisfies = ours .satisfies;
+  completionByRows = ours .completionByRows;
+  answerInRows = ours .answerInRows;
 }
 
 abbrev pub withCompletion : (ℕ → ℕ → List ℕ → ℕ → List ℕ → List ℕ → CompletionOutcome) → Engine
@@ -137,4 +149,6 @@ withCompletion f = record {
   mending = ours .mending;
   valuation = ours .valuation;
   satisfies = ours .satisfies;
+  completionByRows = ours .completionByRows;
+  answerInRows = ours .answerInRows;
 }

@@ -8,6 +8,7 @@ pub mod Forward
 pub mod Reasoning
 pub mod AskingAll
 pub mod Valuing
+pub mod ByRows
 pub mod Demand3
 pub mod FromKind
 pub mod Compacting

@@ -17,6 +17,9 @@ use Rattle.reason_check.specs.declared.Verdict.{Verdict}
 use Rattle.valuation.specs.Table.{ValuationOutcome, filledReply}
 use Rattle.satisfies.specs.Table.{testedReply}
 use Rattle.satisfies.specs.declared.Tested.{Tested}
+use Rattle.rows_completion.specs.Table.{RowsOutcome}
+use Rattle.rows_answer.specs.Table.{answeredReply}
+use Rattle.rows_answer.specs.declared.Answered.{Answered}
 use Rattle.netfile.specs.Contents.{contentsReply}
 use Rattle.netfile.specs.Table.{FileOutcome}
 
@@ -58,6 +61,12 @@ valuationNumber r = filledReply (r .answer) .number
 
 abbrev pub satisfiesNumber : Tested → ℕ
 satisfiesNumber r = testedReply r .number
+
+abbrev pub rowsNumber : RowsOutcome → ℕ
+rowsNumber r = completedReply (r .answer) .number
+
+abbrev pub answerInRowsNumber : Answered → ℕ
+answerInRowsNumber r = answeredReply r .number
 
 abbrev pub fileNumber : FileOutcome → ℕ
 fileNumber r = contentsReply (r .contents) .number

@@ -32,6 +32,8 @@ use Rattle.reason_check.specs.declared.Verdict.the-variants as verdictAs
 use Rattle.valuation.specs.Table.{valuationOutcome}
 use Rattle.valuation.specs.declared.Filled.the-variants as filled
 use Rattle.satisfies.specs.declared.Tested.the-variants as tested
+use Rattle.rows_completion.specs.Table.{rowsOutcome}
+use Rattle.rows_answer.specs.declared.Answered.the-variants as answered
 use Rattle.net.specs.Clauses.{call}
 use Rattle.net.specs.Table.{netClauses}
 use Rattle.promises.specs.Engines.{Engine, ours, scannedBy, withScan, withQuestion, withCompletion}
@@ -52,6 +54,8 @@ refuser r = record {
   mending = λ o k ws kept dropped m. mendingOutcome (mendedNet.Refused r) kept dropped m;
   valuation = λ o k ws set t m. valuationOutcome (filled.Refused r) t m;
   satisfies = λ o k t x y sign. tested.Refused r;
+  completionByRows = λ o k ws set yeses noes l. rowsOutcome (completed.Refused r) yeses noes l;
+  answerInRows = λ o k yeses noes x y. answered.Refused r;
 }
 
 -- An answer turned into none.
@@ -119,4 +123,6 @@ hasty = record {
   mending = ours .mending;
   valuation = ours .valuation;
   satisfies = ours .satisfies;
+  completionByRows = ours .completionByRows;
+  answerInRows = ours .answerInRows;
 }

@@ -30,9 +30,9 @@ use second::Reply;
 
 // Prints a reply: its number and both values.
 fn show_reply(reply: Reply) {
-    show_field(reply.number);
-    show_field(reply.first);
-    show_field(reply.second);
+    show_field(reply.number as u64);
+    show_field(reply.first as u64);
+    show_field(reply.second as u64);
 }
 
 // Runs a case on an engine and prints what it answers.
@@ -66,8 +66,8 @@ fn same_reply(a: Reply, b: Reply) -> bool {
 
 // Runs a case on both engines; whether they agree in the reply and in every place of the buffers.
 fn run_both(operation: Operation, case: Case, store: &[u32]) -> bool {
-    let mut ours = [0u32; 296961];
-    let mut theirs = [0u32; 296961];
+    let mut ours = [0u32; 319488];
+    let mut theirs = [0u32; 319488];
     show(b"proved");
     let proved = answer(Engine::Proved, operation, case, store, &mut ours);
     show(b"second");
@@ -77,7 +77,7 @@ fn run_both(operation: Operation, case: Case, store: &[u32]) -> bool {
 
 // Runs the case whose name stands between two places of the line.
 fn run_named(line: &[u8], from: usize, to: usize, tally: Tally) -> Tally {
-    let mut store = [0u32; 67593];
+    let mut store = [0u32; 114696];
     let name = bytes_between(line, from, to);
     let operation = operation_of(name);
     let case = read_case(operation, line, to, &mut store);

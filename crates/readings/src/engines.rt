@@ -6,6 +6,7 @@ use readings_cases::buffers::lend_links;
 use readings_cases::buffers::lend_list;
 use readings_cases::buffers::lend_mended;
 use readings_cases::buffers::lend_pairs;
+use readings_cases::buffers::lend_rows;
 use readings_cases::buffers::lend_scratch;
 use readings_cases::buffers::lend_table;
 use readings_cases::buffers::lend_text;
@@ -13,6 +14,7 @@ use readings_cases::buffers::take_answers;
 use readings_cases::buffers::take_links;
 use readings_cases::buffers::take_list;
 use readings_cases::buffers::take_mended;
+use readings_cases::buffers::take_rows;
 use readings_cases::buffers::take_scratch;
 use readings_cases::buffers::take_table;
 use readings_cases::buffers::take_text;
@@ -174,6 +176,73 @@ fn with_list(
     lend_list(first, second, buffers, &mut marks, &mut list);
     let reply = on_list(engine, n, words, first, second, &mut marks, &mut list);
     take_list(first, second, &marks, &list, buffers);
+    reply
+}
+
+// An operation on rows, with the first places of both and of the list.
+fn on_rows(
+    engine: Engine,
+    operation: Operation,
+    n: Numbers,
+    words: &[u32],
+    first: usize,
+    second: usize,
+    third: usize,
+    yes: &mut [u64],
+    no: &mut [u64],
+    list: &mut [u32],
+) -> Reply {
+    let a = least(first, yes.len());
+    let b = least(second, no.len());
+    let c = least(third, list.len());
+    match engine {
+        Engine::Proved => proved::on_rows(
+            operation,
+            n,
+            words,
+            &mut yes[..a],
+            &mut no[..b],
+            &mut list[..c],
+        ),
+        Engine::Second => other::on_rows(
+            operation,
+            n,
+            words,
+            &mut yes[..a],
+            &mut no[..b],
+            &mut list[..c],
+        ),
+    }
+}
+
+// The same, with the three buffers; a word of a row takes two places there.
+fn with_rows(
+    engine: Engine,
+    operation: Operation,
+    n: Numbers,
+    words: &[u32],
+    first: usize,
+    second: usize,
+    third: usize,
+    buffers: &mut [u32],
+) -> Reply {
+    let mut yes = [0u64; 20480];
+    let mut no = [0u64; 20480];
+    let mut list = [0u32; 16384];
+    lend_rows(first, second, third, buffers, &mut yes, &mut no, &mut list);
+    let reply = on_rows(
+        engine,
+        operation,
+        n,
+        words,
+        first / 2,
+        second / 2,
+        third,
+        &mut yes,
+        &mut no,
+        &mut list,
+    );
+    take_rows(first, second, third, &yes, &no, &list, buffers);
     reply
 }
 
@@ -429,6 +498,9 @@ pub fn run(
         Operation::CheckWord => on_word(engine, n),
         Operation::Questions => with_pairs(engine, n, words, first, second, third, buffers),
         Operation::Completion => with_list(engine, n, words, first, second, buffers),
+        Operation::CompletionByRows | Operation::AnswerInRows => {
+            with_rows(engine, operation, n, words, first, second, third, buffers)
+        }
         Operation::Compact => with_links(engine, n, first, second, buffers),
         Operation::Mend => with_mended(engine, n, words, first, second, third, buffers),
         Operation::Valuation => with_table(engine, n, words, first, second, buffers),

@@ -30,8 +30,13 @@ fn run_lines(chunk: &mut [u8], room: &mut [u8]) -> Tally {
     tally
 }
 
+// The room of a line.
+fn empty_room() -> [u8; 1048576] {
+    [0u8; 1048576]
+}
+
 fn main() {
     let mut chunk = [0u8; 65536];
-    let mut room = [0u8; 524288];
+    let mut room = empty_room();
     show_tally(run_lines(&mut chunk, &mut room));
 }

@@ -40,6 +40,29 @@ pub fn on_list(n: Numbers, words: &[u32], marks: &mut [u8], list: &mut [u32]) ->
     second::completion(n.o, n.k, words, n.set, marks, list)
 }
 
+// The completion by rows, or the question read off them.
+pub fn on_rows(
+    operation: Operation,
+    n: Numbers,
+    words: &[u32],
+    yes: &mut [u64],
+    no: &mut [u64],
+    list: &mut [u32],
+) -> Reply {
+    match operation {
+        Operation::CompletionByRows => second::completion_by_rows(
+            n.o,
+            n.k,
+            words,
+            n.set,
+            yes,
+            no,
+            list,
+        ),
+        _ => second::answer_in_rows(n.o, n.k, yes, no, n.x, n.y),
+    }
+}
+
 // The compaction.
 pub fn on_links(n: Numbers, list: &mut [u32], marks: &mut [u8]) -> Reply {
     second::compact(n.o, n.k, list, marks)

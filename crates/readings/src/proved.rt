@@ -8,11 +8,13 @@ use netfile::read_contents;
 use readings_cases::operations::Numbers;
 use readings_cases::operations::Operation;
 use second::Reply;
+use strumelka::strumelka_answer_in_rows;
 use strumelka::strumelka_check_net;
 use strumelka::strumelka_check_word;
 use strumelka::strumelka_clash;
 use strumelka::strumelka_compact;
 use strumelka::strumelka_completion;
+use strumelka::strumelka_completion_by_rows;
 use strumelka::strumelka_mend;
 use strumelka::strumelka_question;
 use strumelka::strumelka_questions;
@@ -63,6 +65,29 @@ pub fn on_pairs(
 // The completion.
 pub fn on_list(n: Numbers, words: &[u32], marks: &mut [u8], list: &mut [u32]) -> Reply {
     reply_given(strumelka_completion(n.o, n.k, words, n.set, marks, list))
+}
+
+// The completion by rows, or the question read off them.
+pub fn on_rows(
+    operation: Operation,
+    n: Numbers,
+    words: &[u32],
+    yes: &mut [u64],
+    no: &mut [u64],
+    list: &mut [u32],
+) -> Reply {
+    match operation {
+        Operation::CompletionByRows => reply_given(strumelka_completion_by_rows(
+            n.o,
+            n.k,
+            words,
+            n.set,
+            yes,
+            no,
+            list,
+        )),
+        _ => reply_given(strumelka_answer_in_rows(n.o, n.k, yes, no, n.x, n.y)),
+    }
 }
 
 // The compaction.

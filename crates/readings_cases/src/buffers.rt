@@ -8,19 +8,22 @@ use crate::places::bytes_between;
 use crate::places::halves_before;
 use crate::places::number_at;
 use crate::places::numbers_from;
+use crate::places::rows_before;
 use crate::show::show;
 use crate::show::show_list;
 use crate::widths::copy;
 use crate::widths::fill;
 use crate::widths::from_bytes;
 use crate::widths::from_halves;
+use crate::widths::from_rows;
 use crate::widths::to_bytes;
 use crate::widths::to_halves;
+use crate::widths::to_rows;
 
 // Where the second buffer begins, after room for the first, and the third; and the size of the text of `ask`.
-pub const SECOND_BUFFER: usize = 32769;
+pub const SECOND_BUFFER: usize = 40960;
 
-pub const THIRD_BUFFER: usize = 294913;
+pub const THIRD_BUFFER: usize = 303104;
 
 pub const TEXT_SIZE: usize = 262144;
 
@@ -30,6 +33,7 @@ fn writes_first(operation: Operation) -> bool {
         Operation::CheckNet => false,
         Operation::CheckWord => false,
         Operation::Questions => false,
+        Operation::AnswerInRows => false,
         Operation::Satisfies => false,
         Operation::ReasonCheck => false,
         Operation::File => false,
@@ -43,6 +47,7 @@ fn writes_second(operation: Operation) -> bool {
     match operation {
         Operation::Questions => true,
         Operation::Completion => true,
+        Operation::CompletionByRows => true,
         Operation::Compact => true,
         Operation::Mend => true,
         Operation::Valuation => true,
@@ -56,7 +61,17 @@ fn writes_second(operation: Operation) -> bool {
 fn writes_third(operation: Operation) -> bool {
     match operation {
         Operation::Questions => true,
+        Operation::CompletionByRows => true,
         Operation::Mend => true,
+        _ => false,
+    }
+}
+
+// Whether the first two buffers of an operation are rows, whose numbers are wide.
+fn has_rows(operation: Operation) -> bool {
+    match operation {
+        Operation::CompletionByRows => true,
+        Operation::AnswerInRows => true,
         _ => false,
     }
 }
@@ -87,7 +102,8 @@ pub fn load(operation: Operation, case: Case, store: &[u32], buffers: &mut [u32]
             buffers,
             SECOND_BUFFER,
             SECOND_BUFFER + TEXT_SIZE,
-            number_at(store, 0),
+            false,
+            number_at(store, 0) as u64,
         ),
         _ => (),
     }
@@ -130,6 +146,36 @@ pub fn lend_list(first: usize, second: usize, buffers: &[u32], marks: &mut [u8],
 pub fn take_list(first: usize, second: usize, marks: &[u8], list: &[u32], buffers: &mut [u32]) {
     from_bytes(bytes_between(marks, 0, first), buffers, 0);
     copy(numbers_from(list, 0, second), buffers, SECOND_BUFFER);
+}
+
+// Rows of "is" and of "is not" and a list, as they are in the three buffers.
+pub fn lend_rows(
+    first: usize,
+    second: usize,
+    third: usize,
+    buffers: &[u32],
+    yes: &mut [u64],
+    no: &mut [u64],
+    list: &mut [u32],
+) {
+    to_rows(numbers_from(buffers, 0, first), yes);
+    to_rows(numbers_from(buffers, SECOND_BUFFER, second), no);
+    copy(numbers_from(buffers, THIRD_BUFFER, third), list, 0);
+}
+
+// Takes rows and list back into the three buffers.
+pub fn take_rows(
+    first: usize,
+    second: usize,
+    third: usize,
+    yes: &[u64],
+    no: &[u64],
+    list: &[u32],
+    buffers: &mut [u32],
+) {
+    from_rows(rows_before(yes, first / 2), buffers, 0);
+    from_rows(rows_before(no, second / 2), buffers, SECOND_BUFFER);
+    copy(numbers_from(list, 0, third), buffers, THIRD_BUFFER);
 }
 
 // A list and marks, as they are in the two buffers.
@@ -236,13 +282,16 @@ pub fn take_text(text: &[u8; 262144], buffers: &mut [u32]) {
 // Prints the buffers that an operation wrote in.
 pub fn show_buffers(operation: Operation, case: Case, buffers: &[u32]) {
     if writes_first(operation) {
-        show_list(numbers_from(buffers, 0, case.first));
+        show_list(numbers_from(buffers, 0, case.first), has_rows(operation));
     }
     if writes_second(operation) {
-        show_list(numbers_from(buffers, SECOND_BUFFER, second_size(operation, case)));
+        show_list(
+            numbers_from(buffers, SECOND_BUFFER, second_size(operation, case)),
+            has_rows(operation),
+        );
     }
     if writes_third(operation) {
-        show_list(numbers_from(buffers, THIRD_BUFFER, case.third));
+        show_list(numbers_from(buffers, THIRD_BUFFER, case.third), false);
     }
     show(b"\n");
 }

@@ -21,13 +21,19 @@ pub struct Place {
 // A number, and the place after it.
 pub struct Number {
     pub place: Place,
-    pub value: u32,
+    pub value: u64,
+}
+
+// The number that the digits read so far make, and whether it is below 2^64.
+struct Digits {
+    value: u64,
+    fits: bool,
 }
 
 // A number of a list and how often it stands there, and the place after it.
 struct Item {
     place: Place,
-    value: u32,
+    value: u64,
     count: usize,
 }
 
@@ -38,14 +44,15 @@ struct Filling {
     end: usize,
 }
 
-// What a list takes: where in the store it begins, where its room ends, and the largest number that it may hold.
+// What a list takes: where in the store it begins, where its room ends, the largest number that it may hold, and whether its numbers are wide.
 pub struct Bounds {
     pub base: usize,
     pub limit: usize,
-    pub largest: u32,
+    pub largest: u64,
+    pub wide: bool,
 }
 
-// A list that was read: how many numbers it has, and the place after it.
+// A list that was read: how many places it takes, and the place after it.
 pub struct List {
     pub place: Place,
     pub size: usize,
@@ -103,17 +110,24 @@ fn digit_value(byte: u8) -> u64
     0
 }
 
-// The number with one digit more, or 2^32 where that is no u32.
-fn with_digit(value: u64, byte: u8) -> u64 {
-    if value > 429496729 {
-        return 4294967296;
+// The number with one digit more.
+fn with_digit(before: Digits, byte: u8) -> Digits {
+    let digit = digit_value(byte);
+    if before.value > (18446744073709551615 - digit) / 10 {
+        return Digits {
+            value: 0,
+            fits: false,
+        };
     }
-    value * 10 + digit_value(byte)
+    Digits {
+        value: before.value * 10 + digit,
+        fits: before.fits,
+    }
 }
 
 // A number that was read from one place up to another.
-fn number_read(from: usize, at: usize, value: u64) -> Number {
-    if from == at || value > 4294967295 {
+fn number_read(from: usize, at: usize, digits: Digits) -> Number {
+    if from == at || !digits.fits {
         return Number {
             place: wrong(at, BAD),
             value: 0,
@@ -121,23 +135,34 @@ fn number_read(from: usize, at: usize, value: u64) -> Number {
     }
     Number {
         place: wrong(at, RIGHT),
-        value: value as u32,
+        value: digits.value,
     }
 }
 
 // The digits from `from` on, at least one.
 fn read_digits(line: &[u8], from: usize) -> Number {
     let mut at = from;
-    let mut value: u64 = 0;
+    let mut digits = Digits {
+        value: 0,
+        fits: true,
+    };
     while at < line.len() {
         let byte = byte_at(line, at);
         if !is_digit(byte) {
-            return number_read(from, at, value);
+            return number_read(from, at, digits);
         }
-        value = with_digit(value, byte);
+        digits = with_digit(digits, byte);
         at += 1;
     }
-    number_read(from, at, value)
+    number_read(from, at, digits)
+}
+
+// The place after a number, which has to be so small.
+pub fn at_most(largest: u64, place: Place, value: u64) -> Place {
+    if value > largest {
+        return wrong(place.at, BAD);
+    }
+    place
 }
 
 // A number as a field.
@@ -165,7 +190,7 @@ fn read_item(line: &[u8], at: usize) -> Item {
     let times = read_digits(line, next(place.at));
     let end = times.place;
     Item {
-        place: end,
+        place: at_most(4294967295, end, times.value),
         value: number.value,
         count: times.value as usize,
     }
@@ -180,21 +205,26 @@ fn stopped(at: usize, fault: u32, end: usize) -> Filling {
     }
 }
 
-// Whether there is room for `count` numbers more.
-fn has_room(limit: usize, end: usize, count: usize) -> bool {
+// Whether there are so many places more.
+fn has_room(limit: usize, end: usize, places: usize) -> bool {
     if limit < end {
         return false;
     }
-    count <= limit - end
+    places <= limit - end
 }
 
-// The place `count` numbers on.
-fn beyond(end: usize, count: usize) -> usize {
-    if count <= 18446744073709551615 - end {
-        end + count
+// The place so many places on.
+fn beyond(end: usize, places: usize) -> usize {
+    if places <= 18446744073709551615 - end {
+        end + places
     } else {
         end
     }
+}
+
+// How many places `count` numbers take.
+fn places_of(wide: bool, count: usize) -> usize {
+    if wide { beyond(count, count) } else { count }
 }
 
 // Puts a list's next number where it stands in the list.
@@ -203,11 +233,12 @@ fn put_item(store: &mut [u32], bounds: Bounds, end: usize, item: Item) -> Fillin
     if place.fault != RIGHT || item.value > bounds.largest {
         return stopped(place.at, BAD, end);
     }
-    if !has_room(bounds.limit, end, item.count) {
+    let places = places_of(bounds.wide, item.count);
+    if !has_room(bounds.limit, end, places) {
         return stopped(place.at, LARGE, end);
     }
-    let new_end = beyond(end, item.count);
-    fill(store, end, new_end, item.value);
+    let new_end = beyond(end, places);
+    fill(store, end, new_end, bounds.wide, item.value);
     Filling {
         open: true,
         place: place,

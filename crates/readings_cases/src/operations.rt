@@ -5,6 +5,7 @@ use crate::fields::Bounds;
 use crate::fields::Place;
 use crate::fields::RIGHT;
 use crate::fields::at_end;
+use crate::fields::at_most;
 use crate::fields::read_list;
 use crate::fields::read_number;
 use crate::fields::wrong;
@@ -13,6 +14,7 @@ use crate::places::next;
 use crate::places::number_at;
 use crate::places::put_number;
 use crate::places::same_bytes;
+use crate::widths::lower_half;
 
 // An operation of the two engines.
 pub enum Operation {
@@ -22,6 +24,8 @@ pub enum Operation {
     Question,
     Questions,
     Completion,
+    CompletionByRows,
+    AnswerInRows,
     Clash,
     Compact,
     Mend,
@@ -40,11 +44,11 @@ pub const WORDS: usize = 8;
 
 pub const FIRST: usize = 16392;
 
-pub const SECOND: usize = 49161;
+pub const SECOND: usize = 57352;
 
-pub const THIRD: usize = 65545;
+pub const THIRD: usize = 98312;
 
-// A case that was read: the place after it, how many numbers, words and buffers it has, and the sizes of its buffers.
+// A case that was read: the place after it, how many numbers, words and buffers it has, and the places that its buffers take.
 pub struct Case {
     pub place: Place,
     pub numbers: usize,
@@ -96,6 +100,17 @@ pub fn operation_of(name: &[u8]) -> Operation {
     if same_bytes(name, b"mend") {
         return Operation::Mend;
     }
+    row_operation_of(name)
+}
+
+// The operation of a name, among those about rows, valuations, reasons and files.
+fn row_operation_of(name: &[u8]) -> Operation {
+    if same_bytes(name, b"completion_by_rows") {
+        return Operation::CompletionByRows;
+    }
+    if same_bytes(name, b"answer_in_rows") {
+        return Operation::AnswerInRows;
+    }
     model_operation_of(name)
 }
 
@@ -128,7 +143,7 @@ fn file_operation_of(name: &[u8]) -> Operation {
 }
 
 // The letter of an operation's field, 0 after its last: n a number, b a byte, w words, m marks, c words that are written, s scratch,
-// r a reason, f a file, p pairs, a their answers, t a valuation's table.
+// r a reason, f a file, p pairs, a their answers, t a valuation's table, d rows of bits.
 fn letter_at(operation: Operation, at: usize) -> u8 {
     match operation {
         Operation::CheckNet => byte_at(b"nnwn", at),
@@ -137,6 +152,8 @@ fn letter_at(operation: Operation, at: usize) -> u8 {
         Operation::Question => byte_at(b"nnwnnnm", at),
         Operation::Questions => byte_at(b"nnwnpam", at),
         Operation::Completion => byte_at(b"nnwnmc", at),
+        Operation::CompletionByRows => byte_at(b"nnwnddc", at),
+        Operation::AnswerInRows => byte_at(b"nnddnn", at),
         Operation::Clash => byte_at(b"nnwnm", at),
         Operation::Compact => byte_at(b"nncm", at),
         Operation::Mend => byte_at(b"nnwccm", at),
@@ -152,7 +169,7 @@ fn letter_at(operation: Operation, at: usize) -> u8 {
 
 // Where a list of that letter begins, after so many buffers.
 fn base_of(letter: u8, buffers: usize) -> usize
-    ensures { λ r. ⌜ r ≤ 65545 ⌝ }
+    ensures { λ r. ⌜ r ≤ 98312 ⌝ }
 {
     if letter == b'w' {
         return WORDS;
@@ -164,24 +181,31 @@ fn base_of(letter: u8, buffers: usize) -> usize
     }
 }
 
-// The most numbers that a list of that letter takes.
+// Whether the numbers of a list of that letter are wide.
+fn is_wide(letter: u8) -> bool {
+    letter == b'd'
+}
+
+// The most places that a list of that letter takes.
 fn most_of(letter: u8) -> usize
-    ensures { λ r. ⌜ r ≤ 32769 ⌝ }
+    ensures { λ r. ⌜ r ≤ 40960 ⌝ }
 {
     match letter {
         b'm' | b'p' | b'a' => 2048,
         b's' | b'r' => 4096,
         b'f' => 32769,
         b't' => 32768,
+        b'd' => 40960,
         _ => 16384,
     }
 }
 
-// The largest number that a list of that letter takes.
-fn largest_of(letter: u8) -> u32 {
+// The largest number that a field of that letter takes.
+fn largest_of(letter: u8) -> u64 {
     match letter {
-        b'm' | b'f' | b'a' | b't' => 255,
+        b'b' | b'm' | b'f' | b'a' | b't' => 255,
         b's' | b'r' | b'p' => 65535,
+        b'd' => 18446744073709551615,
         _ => 4294967295,
     }
 }
@@ -193,6 +217,7 @@ fn bounds_of(letter: u8, buffers: usize) -> Bounds {
         base: base,
         limit: base + most_of(letter),
         largest: largest_of(letter),
+        wide: is_wide(letter),
     }
 }
 
@@ -240,21 +265,13 @@ fn with_buffer(case: Case, place: Place, size: usize) -> Case {
     }
 }
 
-// The place after a number, which has to be a byte where the letter says so.
-fn tested(letter: u8, place: Place, value: u32) -> Place {
-    if letter == b'b' && value > 255 {
-        return wrong(place.at, BAD);
-    }
-    place
-}
-
 // Reads a number of a case.
 fn read_one(letter: u8, line: &[u8], case: Case, store: &mut [u32]) -> Case {
     let before = case.place;
     let number = read_number(line, before);
-    put_number(store, case.numbers, number.value);
+    put_number(store, case.numbers, lower_half(number.value));
     let after = number.place;
-    with_number(case, tested(letter, after, number.value))
+    with_number(case, at_most(largest_of(letter), after, number.value))
 }
 
 // Reads a field of a case.
@@ -333,6 +350,7 @@ fn numbers_with(store: &[u32], at: usize) -> Numbers {
 pub fn numbers_of(operation: Operation, store: &[u32]) -> Numbers {
     match operation {
         Operation::Satisfies => numbers_with(store, 2),
+        Operation::AnswerInRows => numbers_with(store, 2),
         _ => numbers_with(store, 3),
     }
 }

@@ -10,6 +10,20 @@ pub fn number_at(numbers: &[u32], at: usize) -> u32 {
     if at < numbers.len() { numbers[at] } else { 0 }
 }
 
+// A number of 64 bits from its lower and its upper half.
+fn whole(lower: u32, upper: u32) -> u64 {
+    upper as u64 * 4294967296 + lower as u64
+}
+
+// The wide number of that index, or 0: it stands at two places, its lower half first.
+pub fn wide_at(numbers: &[u32], index: usize) -> u64 {
+    if index < numbers.len() / 2 {
+        whole(numbers[index * 2], numbers[index * 2 + 1])
+    } else {
+        0
+    }
+}
+
 // Puts a byte at a place, if there is such a place.
 pub fn put_byte(bytes: &mut [u8], at: usize, byte: u8) {
     if at < bytes.len() {
@@ -31,6 +45,13 @@ pub fn put_number(numbers: &mut [u32], at: usize, number: u32) {
     }
 }
 
+// Puts a u64 at a place, if there is such a place.
+pub fn put_row_word(rows: &mut [u64], at: usize, word: u64) {
+    if at < rows.len() {
+        rows[at] = word;
+    }
+}
+
 // The bytes from one place up to another, none where there are no such places.
 pub fn bytes_between<'a>(bytes: &'a [u8], from: usize, to: usize) -> &'a [u8] {
     if from <= to && to <= bytes.len() {
@@ -45,6 +66,14 @@ pub fn halves_before<'a>(halves: &'a [u16], size: usize) -> &'a [u16] {
         return &halves[0..0];
     }
     &halves[0..size]
+}
+
+// The first `size` u64, none where there are fewer.
+pub fn rows_before<'a>(rows: &'a [u64], size: usize) -> &'a [u64] {
+    if rows.len() < size {
+        return &rows[0..0];
+    }
+    &rows[0..size]
 }
 
 // So many numbers from a place on, none where there are fewer.

@@ -2,6 +2,7 @@
 use crate::fields::LARGE;
 use crate::places::distance;
 use crate::places::number_at;
+use crate::places::wide_at;
 use libc::STDOUT_FILENO;
 
 // Prints bytes.
@@ -15,16 +16,31 @@ pub fn show_number(number: u64) {
 }
 
 // Prints a space and a number.
-pub fn show_field(number: u32) {
+pub fn show_field(number: u64) {
     show(b" ");
-    show_number(number as u64);
+    show_number(number);
+}
+
+// How many numbers a list has, where each is wide or none.
+fn size_of(list: &[u32], wide: bool) -> usize {
+    if wide { list.len() / 2 } else { list.len() }
+}
+
+// The number of that index in it, or 0.
+fn shown_at(list: &[u32], wide: bool, at: usize) -> u64 {
+    if wide {
+        wide_at(list, at)
+    } else {
+        number_at(list, at) as u64
+    }
 }
 
 // Where the run of equal numbers that begins at a place ends.
-fn run_end(list: &[u32], from: usize) -> usize {
+fn run_end(list: &[u32], wide: bool, from: usize) -> usize {
+    let size = size_of(list, wide);
     let mut at = from;
-    while at < list.len() {
-        if number_at(list, at) != number_at(list, from) {
+    while at < size {
+        if shown_at(list, wide, at) != shown_at(list, wide, from) {
             return at;
         }
         at += 1;
@@ -33,19 +49,19 @@ fn run_end(list: &[u32], from: usize) -> usize {
 }
 
 // Prints a number and how often it stands there.
-fn show_times(number: u32, count: usize) {
-    show_number(number as u64);
+fn show_times(number: u64, count: usize) {
+    show_number(number);
     show(b"*");
     show_number(count as u64);
 }
 
 // Prints a run of equal numbers.
-fn show_run(number: u32, count: usize) {
+fn show_run(number: u64, count: usize) {
     if count > 3 {
         show_times(number, count);
         return;
     }
-    show_number(number as u64);
+    show_number(number);
     let mut shown: usize = 1;
     while shown < count {
         show_field(number);
@@ -61,22 +77,22 @@ fn show_gap(at: usize) {
 }
 
 // Prints the run that begins at a place, if there is one, and gives the place after it.
-fn show_from(list: &[u32], at: usize) -> usize {
-    let end = run_end(list, at);
+fn show_from(list: &[u32], wide: bool, at: usize) -> usize {
+    let end = run_end(list, wide, at);
     if at < end {
         show_gap(at);
-        show_run(number_at(list, at), distance(at, end));
+        show_run(shown_at(list, wide, at), distance(at, end));
     }
     end
 }
 
-// Prints a list; every turn shows at least one number, while there are any.
-pub fn show_list(list: &[u32]) {
+// Prints a list, whose numbers are wide or not; every turn shows at least one number, while there are any.
+pub fn show_list(list: &[u32], wide: bool) {
     show(b" [");
     let mut at: usize = 0;
     let mut turns: usize = 0;
     while turns < list.len() {
-        at = show_from(list, at);
+        at = show_from(list, wide, at);
         turns += 1;
     }
     show(b"]");

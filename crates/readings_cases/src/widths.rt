@@ -1,10 +1,13 @@
-// The buffers of a case are kept as numbers of 32 bits; here they become the bytes and the u16 that an operation is lent, and back.
+// The buffers of a case are kept as numbers of 32 bits, a wide number as its two halves; here they become the bytes, the u16 and the u64 that an
+// operation is lent, and back.
 use crate::places::byte_at;
 use crate::places::next;
 use crate::places::number_at;
 use crate::places::put_byte;
 use crate::places::put_half;
 use crate::places::put_number;
+use crate::places::put_row_word;
+use crate::places::wide_at;
 
 // A number as a byte; the numbers of a buffer of bytes were tested when they were read.
 fn to_byte(number: u32) -> u8 {
@@ -14,6 +17,16 @@ fn to_byte(number: u32) -> u8 {
 // A number as a u16, likewise.
 fn to_half(number: u32) -> u16 {
     (number % 65536) as u16
+}
+
+// The lower half of a number.
+pub fn lower_half(number: u64) -> u32 {
+    (number % 4294967296) as u32
+}
+
+// The upper half of a number.
+fn upper_half(number: u64) -> u32 {
+    (number / 4294967296) as u32
 }
 
 // A byte as a number.
@@ -75,6 +88,38 @@ pub fn from_halves(halves: &[u16], numbers: &mut [u32], base: usize) {
     }
 }
 
+// U64 from wide numbers.
+pub fn to_rows(numbers: &[u32], rows: &mut [u64]) {
+    let size = numbers.len() / 2;
+    let mut at = 0;
+    while at < size {
+        put_row_word(rows, at, wide_at(numbers, at));
+        at += 1;
+    }
+}
+
+// The u64 at a place, or 0.
+fn row_word_at(rows: &[u64], at: usize) -> u64 {
+    if at < rows.len() { rows[at] } else { 0 }
+}
+
+// Puts a wide number at a place and the next.
+fn put_wide(numbers: &mut [u32], at: usize, number: u64) {
+    put_number(numbers, at, lower_half(number));
+    put_number(numbers, next(at), upper_half(number));
+}
+
+// Wide numbers from u64, from the place `base` on.
+pub fn from_rows(rows: &[u64], numbers: &mut [u32], base: usize) {
+    let mut place = base;
+    let mut at = 0;
+    while at < rows.len() {
+        put_wide(numbers, place, row_word_at(rows, at));
+        place = next(next(place));
+        at += 1;
+    }
+}
+
 // Numbers from numbers, from the place `base` on.
 pub fn copy(from: &[u32], to: &mut [u32], base: usize) {
     let mut place = base;
@@ -86,11 +131,23 @@ pub fn copy(from: &[u32], to: &mut [u32], base: usize) {
     }
 }
 
-// One number at every place from `from` up to `to`.
-pub fn fill(numbers: &mut [u32], from: usize, to: usize, number: u32) {
+// Two numbers by turns at the places from `from` up to `to`.
+fn fill_by_turns(numbers: &mut [u32], from: usize, to: usize, first: u32, second: u32) {
+    let mut now = first;
+    let mut then = second;
     let mut at = from;
     while at < to {
-        put_number(numbers, at, number);
+        put_number(numbers, at, now);
+        let put = now;
+        now = then;
+        then = put;
         at += 1;
     }
+}
+
+// One number, wide or not, at all places from `from` up to `to`.
+pub fn fill(numbers: &mut [u32], from: usize, to: usize, wide: bool, number: u64) {
+    let lower = lower_half(number);
+    let other = if wide { upper_half(number) } else { lower };
+    fill_by_turns(numbers, from, to, lower, other);
 }

@@ -10,6 +10,7 @@ mod pairs; // pairs.rt: a screenful of questions
 mod compaction; // compaction.rt: links that say nothing new
 mod mending; // mending.rt: links that do not clash
 mod models; // models.rt: valuations
+mod rows; // rows.rt: bit rows
 mod search; // search.rt: the shortest reason
 mod path; // path.rt: whether a list is a path
 mod file; // file.rt: the net file
@@ -62,6 +63,11 @@ use reply::given;
 use reply::refused;
 use rounds::scan_marks;
 use rounds::whole_budget;
+use rows::IS;
+use rows::IS_NOT;
+use rows::cells_of;
+use rows::pack_rows;
+use rows::row_size;
 use search::fill_distances;
 use search::write_reason;
 use text::file_line;
@@ -167,6 +173,51 @@ pub fn completion(
     }
     write_words(&support, list);
     given(0, narrow(count), 0)
+}
+
+// The same, by way of rows of bits that are left in the first words of `yes` and `no`: bit y of the row of x says that x → y, or x ↛ y.
+pub fn completion_by_rows(
+    o: u32,
+    k: u32,
+    words: &[u32],
+    set: u32,
+    yes: &mut [u64],
+    no: &mut [u64],
+    list: &mut [u32],
+) -> Reply {
+    let checked = net_check(o, k, words, set);
+    if checked.number != 0 {
+        return checked;
+    }
+    let n = node_count(o, k);
+    if !is_room(n, row_size(n), yes.len()) || !is_room(n, row_size(n), no.len()) {
+        return refused(5);
+    }
+    let mut support = empty_table();
+    close(node(o), n, words, set, &mut support);
+    pack_rows(n, &support, IS, yes);
+    pack_rows(n, &support, IS_NOT, no);
+    let count = count_words(&support);
+    if list.len() < count {
+        return given(8, narrow(count), 0);
+    }
+    write_words(&support, list);
+    given(0, narrow(count), 0)
+}
+
+// The question (x, y), read off rows.
+pub fn answer_in_rows(o: u32, k: u32, yes: &[u64], no: &[u64], x: u32, y: u32) -> Reply {
+    let n = node_count(o, k);
+    if n > 1024 {
+        return refused(1);
+    }
+    if !is_statement(o, k, x, y, 0) {
+        return refused(4);
+    }
+    if !is_room(n, row_size(n), yes.len()) || !is_room(n, row_size(n), no.len()) {
+        return refused(5);
+    }
+    given(0, answer(&cells_of(n, yes, no), node(x), node(y)), 0)
 }
 
 // The smallest node, object or kind, that both is and is not some kind, and the smallest such kind of that node.

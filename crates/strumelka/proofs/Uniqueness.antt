@@ -15,6 +15,8 @@ use Rattle.reason.specs.Table.{reasoned, reasonedReply}
 use Rattle.reason_check.specs.Table.{verdict, verdictReply}
 use Rattle.valuation.specs.Table.{filledBy, filledReply}
 use Rattle.satisfies.specs.Table.{testedBy, testedReply}
+use Rattle.rows_completion.specs.Table.{completedByRows}
+use Rattle.rows_answer.specs.Table.{answeredInRows, answeredReply}
 
 -- The structs r and q that a statement lets a call give, where s is its reply.
 module _ {s : Reply} (r q : Reply) where
@@ -39,6 +41,10 @@ given-check-word-unique o k w r q = gives-one r q
 -- `strumelka_satisfies`.
 pub given-satisfies-unique : (o k : ℕ) (table : List ℕ) (x y sign : ℕ) (r q : Reply) → r ≡ testedReply (testedBy o k table x y sign) → q ≡ testedReply (testedBy o k table x y sign) → r ≡ q
 given-satisfies-unique o k table x y sign r q = gives-one r q
+
+-- `strumelka_answer_in_rows`.
+pub given-answer-in-rows-unique : (o k : ℕ) (yeses noes : List ℕ) (x y : ℕ) (r q : Reply) → r ≡ answeredReply (answeredInRows o k yeses noes x y) → q ≡ answeredReply (answeredInRows o k yeses noes x y) → r ≡ q
+given-answer-in-rows-unique o k yeses noes x y r q = gives-one r q
 
 module _ (o k : ℕ) (ws : List ℕ) (set : ℕ) (r q : Reply) where
   -- `strumelka_check_net`.
@@ -94,6 +100,15 @@ module _ (o k : ℕ) (ws : List ℕ) (set : ℕ) (r q : Reply) where
       → (q ≡ filledReply (filledBy o k ws set table marks .answer)) × (l ≡ filledBy o k ws set table marks .table) × (d ≡ filledBy o k ws set table marks .marks)
       → (r ≡ q) × (m ≡ l) × (c ≡ d)
   given-valuation-unique table marks m l c d = leaves-two r q m l c d
+
+  -- `strumelka_completion_by_rows`: m and l the yes rows, c and d the no rows, a and b the lists left.
+  pub given-completion-by-rows-unique : (yeses noes list m l c d a b : List ℕ)
+      → (r ≡ completedReply (completedByRows o k ws set yeses noes list .answer)) × (m ≡ completedByRows o k ws set yeses noes list .yeses)
+      × (c ≡ completedByRows o k ws set yeses noes list .noes) × (a ≡ completedByRows o k ws set yeses noes list .list)
+      → (q ≡ completedReply (completedByRows o k ws set yeses noes list .answer)) × (l ≡ completedByRows o k ws set yeses noes list .yeses)
+      × (d ≡ completedByRows o k ws set yeses noes list .noes) × (b ≡ completedByRows o k ws set yeses noes list .list)
+      → (r ≡ q) × (m ≡ l) × (c ≡ d) × (a ≡ b)
+  given-completion-by-rows-unique yeses noes list m l c d a b = leaves-three r q m l c d a b
 
 -- `strumelka_compact`: m and l the lists, c and d the marks left.
 pub given-compact-unique : (o k : ℕ) (list marks : List ℕ) (r q : Reply) (m l c d : List ℕ)

@@ -13,10 +13,13 @@ ghost use Rattle.reason.specs.Table.{reasoned, reasonedReply};
 ghost use Rattle.reason_check.specs.Table.{verdict, verdictReply};
 ghost use Rattle.valuation.specs.Table.{filledBy, filledReply};
 ghost use Rattle.satisfies.specs.Table.{testedBy, testedReply};
+ghost use Rattle.rows_completion.specs.Table.{completedByRows};
+ghost use Rattle.rows_answer.specs.Table.{answeredInRows, answeredReply};
 use check_word::check_word;
 use clash::find_clash;
 use compact::compact_list;
 use completion::complete_net;
+use library_answer::answered_given;
 use library_answer::asked_all_given;
 use library_answer::asked_given;
 use library_answer::clashed_given;
@@ -37,6 +40,8 @@ use question::ask_question;
 use questions::ask_all;
 use reason::find_reason;
 use reason_check::check_reason;
+use rows_answer::answer_in_rows;
+use rows_completion::completion_by_rows;
 use satisfies::test_valuation;
 use scan::scan;
 use valuation::fill_valuation;
@@ -236,4 +241,38 @@ pub extern "C" fn strumelka_satisfies(
     ensures { λ r. ⌜ r ≡ testedReply (testedBy o k (now (table .entry)) x y sign) ⌝ }
 {
     tested_given(test_valuation(o, k, table, x, y, sign))
+}
+
+// The completion by rows, with room for the yes rows, for the no rows and for the list.
+#[no_mangle]
+pub extern "C" fn strumelka_completion_by_rows(
+    o: u32,
+    k: u32,
+    words: &[u32],
+    set: u32,
+    yeses: &mut [u64],
+    noes: &mut [u64],
+    list: &mut [u32],
+) -> Reply
+    ensures { λ r. ⌜ (r ≡ completedReply (completedByRows o k (now (words .entry)) set (now (yeses .entry)) (now (noes .entry)) (now (list .entry)) .answer))
+        × (now (yeses .exit) ≡ completedByRows o k (now (words .entry)) set (now (yeses .entry)) (now (noes .entry)) (now (list .entry)) .yeses)
+        × (now (noes .exit) ≡ completedByRows o k (now (words .entry)) set (now (yeses .entry)) (now (noes .entry)) (now (list .entry)) .noes)
+        × (now (list .exit) ≡ completedByRows o k (now (words .entry)) set (now (yeses .entry)) (now (noes .entry)) (now (list .entry)) .list) ⌝ }
+{
+    completed_given(completion_by_rows(o, k, words, set, yeses, noes, list))
+}
+
+// The question whether `x` is `y`, asked of rows that a completion by rows left.
+#[no_mangle]
+pub extern "C" fn strumelka_answer_in_rows(
+    o: u32,
+    k: u32,
+    yeses: &[u64],
+    noes: &[u64],
+    x: u32,
+    y: u32,
+) -> Reply
+    ensures { λ r. ⌜ r ≡ answeredReply (answeredInRows o k (now (yeses .entry)) (now (noes .entry)) x y) ⌝ }
+{
+    answered_given(answer_in_rows(o, k, yeses, noes, x, y))
 }

@@ -5,6 +5,7 @@ pub mod machine
 pub mod completion
 pub mod compaction
 pub mod mending
+pub mod rows
 pub mod reason
 pub mod origins
 pub mod valuation

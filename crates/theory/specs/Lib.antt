@@ -14,6 +14,7 @@ pub mod Sorting
 pub mod Compaction
 pub mod Clashes
 pub mod Mending
+pub mod Rows
 pub mod Reasons
 pub mod Searches
 pub mod Checks

@@ -1,14 +1,15 @@
 -- Laws of the bits of a number: bit j of n is n / 2 ^ j % 2.
-use Prim.Native.Nat.{ℕ, zero, suc, _+_, _*_, _/_, _%_, _^_, _-_, _<_, _≤_, max}
+use Prim.Native.Nat.{ℕ, zero, suc, _+_, _*_, _/_, _%_, _^_, _-_, _<_, _≤_, min, max}
 use mathlib.Core.Path.{_≡_, refl, sym, ap, _∙_}
-use mathlib.Core.Bool.{true, false, _||_}
+use mathlib.Core.Bool.{true, false, _&&_, _||_}
 use native.Mathlib.Omega.{arith}
-use native.Mathlib.Nat.{max-le, mod-lt}
+use native.Mathlib.Nat.{max-le, mod-lt, pow-zero, div-one, lt-of-lt-of-le}
 use native.Mathlib.Decide.{decLt, ℕ-discrete}
 use borrow.Author.Tests.{eqb-false, eqb-true, eq-eqb, ne-eqb}
 use lib.Dec.{eqb}
-use lib.Pow.{pow-pos, pow-lt, pow-add, split, mod-pow-add, shl-shr, shr-shr, high}
-use lib.Bits.{bitOr, bitAnd, or-add-and, and-high, or-shr, or-step, shifted-even}
+use lib.Arith.{digits-mod}
+use lib.Pow.{pow-pos, pow-lt, pow-mono, pow-add, split, mod-pow-add, shl-shr, shr-shr, high}
+use lib.Bits.{bitOr, bitAnd, or-add-and, and-high, or-shr, or-step, and-step, and-shr, shifted-even}
 use lib.Count.{ones, onesIn, ones-cat}
 
 one-ones : ones 1 ≡ 1
@@ -71,6 +72,37 @@ bit-or j a b =
     let e : bitOr x y % 2 ≡ max (x % 2) (y % 2) = omega (arith, or-step x y) in
     ap (λ (n : ℕ). eqb n 1) (ap (λ (n : ℕ). n % 2) (or-shr a b j) ∙ e) ∙ max-bits (x % 2) (y % 2) (omega arith) (omega arith)
 
+-- The lowest bit, and the others as bits of the half.
+pub bit-first : (n : ℕ) → eqb (n / 2 ^ 0 % 2) 1 ≡ eqb (n % 2) 1
+bit-first n = rw (pow-zero, div-one)
+
+pub bit-next : (n j : ℕ) → eqb (n / 2 ^ suc j % 2) 1 ≡ eqb (n / 2 / 2 ^ j % 2) 1
+bit-next n j = ap (λ (x : ℕ). eqb (x % 2) 1) (sym (shr-shr n 1 j ∙ ap (λ (x : ℕ). n / 2 ^ x) (omega arith)))
+
+-- Zero has no bit.
+pub bit-zero : (j : ℕ) → eqb (0 / 2 ^ j % 2) 1 ≡ false
+bit-zero zero = bit-first 0
+bit-zero (suc j) = bit-next 0 j ∙ bit-zero j
+
+min-bits : (x y : ℕ) → x < 2 → y < 2 → eqb (min x y) 1 ≡ (eqb x 1 && eqb y 1)
+min-bits zero zero p q = refl
+min-bits zero (suc zero) p q = refl
+min-bits (suc zero) zero p q = refl
+min-bits (suc zero) (suc zero) p q = refl
+min-bits zero (suc (suc y)) p q = absurd (omega arith)
+min-bits (suc zero) (suc (suc y)) p q = absurd (omega arith)
+min-bits (suc (suc x)) y p q = absurd (omega arith)
+
+and-low : (a b : ℕ) → bitAnd a b % 2 ≡ min (a % 2) (b % 2)
+and-low a b = ap (λ (x : ℕ). x % 2) (and-step a b) ∙ digits-mod (bitAnd (a / 2) (b / 2)) (omega arith)
+
+-- Bit j of a conjunction.
+pub bit-and : (j a b : ℕ) → eqb (bitAnd a b / 2 ^ j % 2) 1 ≡ (eqb (a / 2 ^ j % 2) 1 && eqb (b / 2 ^ j % 2) 1)
+bit-and j a b =
+    ap (λ (x : ℕ). eqb (x % 2) 1) (and-shr a b j)
+    ∙ ap (λ (x : ℕ). eqb x 1) (and-low (a / 2 ^ j) (b / 2 ^ j))
+    ∙ min-bits (a / 2 ^ j % 2) (b / 2 ^ j % 2) (omega arith) (omega arith)
+
 power-same : (k : ℕ) → 2 ^ k / 2 ^ k ≡ 1
 power-same k =
     let e : 1 * 2 ^ k ≡ 2 ^ k = omega arith in
@@ -118,3 +150,16 @@ bits-same (suc f) a b p q h =
     odd zero (suc (suc y)) u v e = absurd (omega arith)
     odd (suc zero) (suc (suc y)) u v e = absurd (omega arith)
     odd (suc (suc x)) y u v e = absurd (omega arith)
+
+-- So are two numbers of k bits of which these k are the same.
+pub bits-alike : (k a b : ℕ) → a < 2 ^ k → b < 2 ^ k → ((j : ℕ) → j < k → eqb (a / 2 ^ j % 2) 1 ≡ eqb (b / 2 ^ j % 2) 1) → a ≡ b
+bits-alike k a b p q f = bits-same (a + b) a b (omega arith) (omega arith) (λ j. at j (decLt j k))
+  where
+    above : (n j : ℕ) → n < 2 ^ k → k ≤ j → n / 2 ^ j ≡ 0
+    above n j h g =
+        let e : 0 * 2 ^ j + n ≡ n = omega arith in
+        rw e at (high 0 j (lt-of-lt-of-le h (pow-mono g)))
+
+    at : (j : ℕ) → Dec (j < k) → eqb (a / 2 ^ j % 2) 1 ≡ eqb (b / 2 ^ j % 2) 1
+    at j (yes h) = f j h
+    at j (no h) = rw (above a j p (omega arith), above b j q (omega arith))

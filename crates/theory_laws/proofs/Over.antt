@@ -1,6 +1,6 @@
 -- Laws of a list that is written over from its front: how one value more, or a part lent from the seam on, extends what is written.
 use Prim.Native.Nat.{ℕ, _+_, _≤_, _<_, _-_}
-use mathlib.Core.Path.{_≡_, sym, ap, _∙_}
+use mathlib.Core.Path.{_≡_, refl, sym, ap, _∙_}
 use mathlib.Core.List.{List, [], _∷_, _++_, append-assoc, append-nil}
 use native.Mathlib.Omega.{arith}
 use native.Mathlib.Numerals.{add-one}
@@ -11,6 +11,16 @@ use Rattle.theory_laws.specs.Over.{over}
 -- Where ws fits, the length stays.
 pub length-over : (ws l : List ℕ) → length ws ≤ length l → length (over ws l) ≡ length l
 length-over ws l h = simp (length-append, length-drop) (omega arith)
+
+-- One value, or two, over the front of a list.
+pub put-one : (l : List ℕ) (v : ℕ) → 1 ≤ length l → set l 0 v ≡ over (v ∷ []) l
+put-one [] v h = absurd (omega arith)
+put-one (a ∷ l) v h = refl
+
+pub put-two : (l : List ℕ) (v w : ℕ) → 2 ≤ length l → set (set l 0 v) 1 w ≡ over (v ∷ w ∷ []) l
+put-two [] v w h = absurd (omega arith)
+put-two (a ∷ []) v w h = absurd (omega arith)
+put-two (a ∷ b ∷ l) v w h = refl
 
 -- One value stored at the seam.
 pub over-one : (ws l : List ℕ) (v i : ℕ) → length ws ≡ i → i < length l → set (over ws l) i v ≡ over (ws ++ v ∷ []) l

@@ -6,10 +6,10 @@ use Rattle.readings_cases.proofs.fields.read_digits.Statement.{statemen
 use Rattle.readings_cases.proofs.fields.read_digits.Tie as tie
 
 abbrev Inv-loop : tie.InvT-loop
-Inv-loop line from at₀ value₀ at value = Unit {0}
+Inv-loop line from at₀ digits₀ at digits = Unit {0}
 
 abbrev μ-loop : tie.MeasureT-loop
-μ-loop line from at₀ value₀ at value = length line - at
+μ-loop line from at₀ digits₀ at digits = length line - at
 
 pub read-digits-spec : {M : Type 1} → statement M
 read-digits-spec =

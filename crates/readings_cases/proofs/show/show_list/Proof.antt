@@ -6,10 +6,10 @@ use Rattle.readings_cases.proofs.show.show_list.Statement.{statement}
 use Rattle.readings_cases.proofs.show.show_list.Tie as tie
 
 abbrev Inv-loop : tie.InvT-loop
-Inv-loop list at₀ turns₀ t5 at turns = Unit {0}
+Inv-loop list wide at₀ turns₀ t6 at turns = Unit {0}
 
 abbrev μ-loop : tie.MeasureT-loop
-μ-loop list at₀ turns₀ t5 at turns = length list - turns
+μ-loop list wide at₀ turns₀ t6 at turns = length list - turns
 
 pub show-list-spec : {M : Type 1} → statement M
 show-list-spec =

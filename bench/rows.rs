@@ -1,0 +1,149 @@
+//! The plain engine's rows of bits, written for speed: every loop over a row runs over slices of its words, so that none of its
+//! steps tests an index, and a row that is read beside one that is written is held in an array of its own.
+
+use crate::nets::row_size;
+
+/// The most words that a row has.
+const ROW_LIMIT: usize = 16;
+
+/// What a net supports, whatever the rows held: bit y of the row of x is set in `yes` where x is y, and in `no` where x is not y. Both have
+/// all rows and nothing behind them, and the links come as tail, head and sign.
+pub fn fill(
+    objects: usize,
+    nodes: usize,
+    links: impl Iterator<Item = (usize, usize, u32)>,
+    yes: &mut [u64],
+    no: &mut [u64],
+) {
+    let size = row_size(nodes);
+    yes.fill(0);
+    no.fill(0);
+    if objects == nodes {
+        return;
+    }
+    for p in objects..nodes {
+        put(&mut yes[p * size..], p);
+    }
+    for (tail, head, sign) in links {
+        if sign == 0 {
+            put(&mut yes[tail * size..], head);
+            continue;
+        }
+        put(&mut no[tail * size..], head);
+        if tail >= objects {
+            put(&mut no[head * size..], tail);
+        }
+    }
+    close(objects, nodes, size, yes);
+    gather(size, yes, no);
+    pass_down(objects, size, yes, no);
+}
+
+fn put(row: &mut [u64], y: usize) {
+    row[y / 64] |= 1 << (y % 64);
+}
+
+fn has(row: &[u64], y: usize) -> bool {
+    row[y / 64] >> (y % 64) & 1 != 0
+}
+
+fn join(row: &mut [u64], other: &[u64]) {
+    for (word, more) in row.iter_mut().zip(other) {
+        *word |= more;
+    }
+}
+
+fn meet(row: &[u64], other: &[u64]) -> bool {
+    let both = row.iter().zip(other).fold(0, |sum, (a, b)| sum | a & b);
+    both != 0
+}
+
+/// Warshall: what is q is whatever q is, for each kind q in turn.
+fn close(objects: usize, nodes: usize, size: usize, yes: &mut [u64]) {
+    let mut held = [0; ROW_LIMIT];
+    let held = &mut held[..size];
+    for q in objects..nodes {
+        held.copy_from_slice(&yes[q * size..(q + 1) * size]);
+        for row in yes.chunks_exact_mut(size) {
+            if has(row, q) {
+                join(row, held);
+            }
+        }
+    }
+}
+
+/// What x is, is not something: neither is x.
+fn gather(size: usize, yes: &[u64], no: &mut [u64]) {
+    let mut held = [0; ROW_LIMIT];
+    let held = &mut held[..size];
+    for (x, kinds) in yes.chunks_exact(size).enumerate() {
+        let place = x * size..(x + 1) * size;
+        held.copy_from_slice(&no[place.clone()]);
+        each(kinds, |q| join(held, &no[q * size..(q + 1) * size]));
+        no[place].copy_from_slice(held);
+    }
+}
+
+/// Where x is not something, it is none of the kinds that are.
+fn pass_down(objects: usize, size: usize, yes: &[u64], no: &mut [u64]) {
+    let kinds = &yes[objects * size..];
+    for row in no.chunks_exact_mut(size) {
+        if row.iter().all(|&word| word == 0) {
+            continue;
+        }
+        for (at, kind) in kinds.chunks_exact(size).enumerate() {
+            if meet(kind, row) {
+                put(row, objects + at);
+            }
+        }
+    }
+}
+
+/// Each bit of a row that is set, by the trailing zeros of its words.
+fn each(row: &[u64], mut take: impl FnMut(usize)) {
+    for (at, &word) in row.iter().enumerate() {
+        let mut left = word;
+        while left != 0 {
+            take(64 * at + left.trailing_zeros() as usize);
+            left &= left - 1;
+        }
+    }
+}
+
+/// How many statements the rows say.
+pub fn count(yes: &[u64], no: &[u64]) -> usize {
+    let ones = |rows: &[u64]| {
+        rows.iter()
+            .map(|word| word.count_ones() as usize)
+            .sum::<usize>()
+    };
+    ones(yes) + ones(no)
+}
+
+/// Their words, ascending, into a list of as many places.
+pub fn write(nodes: usize, yes: &[u64], no: &[u64], list: &mut [u32]) {
+    let size = row_size(nodes).max(1);
+    let mut places = list.iter_mut();
+    let mut put = |word: usize| {
+        if let Some(place) = places.next() {
+            *place = word as u32;
+        }
+    };
+    let rows = yes.chunks_exact(size).zip(no.chunks_exact(size));
+    for (x, (yes, no)) in rows.enumerate() {
+        for (at, (&is, &is_not)) in yes.iter().zip(no).enumerate() {
+            let mut left = is | is_not;
+            while left != 0 {
+                let t = left.trailing_zeros() as usize;
+                let word = x * 2048 + (64 * at + t) * 2;
+                if is >> t & 1 != 0 {
+                    put(word);
+                }
+                if is_not >> t & 1 != 0 {
+                    put(word + 1);
+                }
+                left &= left - 1;
+            }
+        }
+    }
+}

@@ -1,0 +1,4 @@
+pub mod Outcomes
+pub mod Alike
+pub mod Replies
+pub mod Readings

@@ -1,0 +1,11 @@
+pub mod Lowest
+pub mod Members
+pub mod Grown
+pub mod Places
+pub mod Sound
+pub mod Links
+pub mod Warshall
+pub mod Gathering
+pub mod Passing
+pub mod Exactly
+pub mod Listing

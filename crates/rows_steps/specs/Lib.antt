@@ -1,0 +1,4 @@
+pub mod Members
+pub mod Rows
+pub mod Steps
+pub mod Listing
