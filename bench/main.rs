@@ -106,7 +106,7 @@ fn main() {
     );
     println!("\n64 questions about one node, in one call and one by one:\n");
     print_screenful(ratios, &random_shape(100, 800, 8_000));
-    println!("\nCompletion by rows of bits, which the call clears itself:\n");
+    println!("\nCompletion by rows of bits, which the call clears itself; `by size` is the plain program compiled for each size of a row:\n");
     print_rows(
         ratios,
         &[
@@ -270,25 +270,40 @@ fn print_screenful(ratios: bool, shape: &Shape) {
 
 fn print_rows(ratios: bool, shapes: &[Shape]) {
     println!(
-        "| net | words written | rows before | {}proved / plain |",
-        if ratios { "" } else { "proved | plain | " }
+        "| net | words written | rows before | {}proved / plain | proved / by size |",
+        if ratios {
+            ""
+        } else {
+            "proved | plain | by size | "
+        }
     );
-    println!("|---|---|---|{}---|", if ratios { "" } else { "---|---|" });
+    println!(
+        "|---|---|---|{}---|---|",
+        if ratios { "" } else { "---|---|---|" }
+    );
     for shape in shapes {
         for (before, name) in [(0, "zeros"), (u64::MAX, "ones")] {
-            let best = measure(shape, Operation::CompletionByRows(before));
+            let operation = Operation::CompletionByRows(before);
+            let best = measure(shape, operation);
+            let by_size = measure_against(&plain::BY_SIZE, shape, operation);
             let times = if ratios {
                 String::new()
             } else {
-                format!("{} | {} | ", time(best.proved), time(best.plain))
+                format!(
+                    "{} | {} | {} | ",
+                    time(best.proved),
+                    time(best.plain),
+                    time(by_size.plain)
+                )
             };
             println!(
-                "| {} | {} | {} | {}{:.2} |",
+                "| {} | {} | {} | {}{:.2} | {:.2} |",
                 shape.name,
                 best.answer.first,
                 name,
                 times,
-                best.proved / best.plain
+                best.proved / best.plain,
+                by_size.proved / by_size.plain
             );
         }
     }
@@ -403,10 +418,14 @@ fn time(seconds: f64) -> String {
     }
 }
 
-/// Both engines by turns; the best time of each. What they answer and leave in the buffers must be equal.
 fn measure(shape: &Shape, operation: Operation) -> Measured {
+    measure_against(&plain::ENGINE, shape, operation)
+}
+
+/// The proved engine and a plain one by turns; the best time of each. What they answer and leave in the buffers must be equal.
+fn measure_against(plain: &Engine, shape: &Shape, operation: Operation) -> Measured {
     let mut rooms = [room_for(shape), room_for(shape)];
-    let engines = [&proved::ENGINE, &plain::ENGINE];
+    let engines = [&proved::ENGINE, plain];
     let mut best = [f64::INFINITY; 2];
     let mut answers = [Answer::new(0, 0, 0); 2];
     let mut calls = 1;

@@ -40,6 +40,12 @@ pub const ENGINE: Engine = Engine {
     reason_check,
 };
 
+/// The same with rows by code for each size of a row.
+pub const BY_SIZE: Engine = Engine {
+    completion_by_rows: completion_by_sized_rows,
+    ..ENGINE
+};
+
 /// What an operation answers; a refusal leaves it early as an `Err`.
 type Outcome = Result<Answer, Answer>;
 
@@ -162,18 +168,36 @@ fn completion_by_rows(
     list: &mut [u32],
 ) -> Answer {
     on_net(o, k, words, set, |net| {
-        let each = row_size(net.nodes);
-        let (yes, no) = (net.places(each, yes)?, net.places(each, no)?);
-        let chosen = words.iter().filter(|&&word| is_chosen(set, word));
-        let links = chosen.map(|&word| (tail_of(word), head_of(word), word % 2));
-        rows::fill(net.objects, net.nodes, links, yes, no);
-        let size = rows::count(yes, no);
-        if size > list.len() {
-            return Ok(Answer::new(8, size as u32, 0));
-        }
-        rows::write(net.nodes, yes, no, &mut list[..size]);
-        Ok(Answer::new(0, size as u32, 0))
+        let (yes, no) = net.rows(yes, no)?;
+        rows::fill(net.objects, net.nodes, net.links(), yes, no);
+        Ok(write_rows(net.nodes, yes, no, list))
     })
+}
+
+fn completion_by_sized_rows(
+    o: u32,
+    k: u32,
+    words: &[u32],
+    set: u32,
+    yes: &mut [u64],
+    no: &mut [u64],
+    list: &mut [u32],
+) -> Answer {
+    on_net(o, k, words, set, |net| {
+        let (yes, no) = net.rows(yes, no)?;
+        rows::fill_by_size(net.objects, net.nodes, net.links(), yes, no);
+        Ok(write_rows(net.nodes, yes, no, list))
+    })
+}
+
+/// What filled rows say, into a list that has room for it.
+fn write_rows(nodes: usize, yes: &[u64], no: &[u64], list: &mut [u32]) -> Answer {
+    let size = rows::count(yes, no);
+    if size > list.len() {
+        return Answer::new(8, size as u32, 0);
+    }
+    rows::write(nodes, yes, no, &mut list[..size]);
+    Answer::new(0, size as u32, 0)
 }
 
 fn clash(o: u32, k: u32, words: &[u32], set: u32, marks: &mut [u8]) -> Answer {
@@ -421,6 +445,23 @@ impl<'a> Net<'a> {
             Some(places) => Ok(places),
             None => refused(5),
         }
+    }
+
+    /// The parts of two lent buffers that are the rows, or number 5.
+    fn rows<'b>(
+        &self,
+        yes: &'b mut [u64],
+        no: &'b mut [u64],
+    ) -> Result<(&'b mut [u64], &'b mut [u64]), Answer> {
+        let each = row_size(self.nodes);
+        Ok((self.places(each, yes)?, self.places(each, no)?))
+    }
+
+    /// The chosen links: tail, head and sign of each.
+    fn links(&self) -> impl Iterator<Item = (usize, usize, u32)> + 'a {
+        let set = self.set;
+        let chosen = self.words.iter().filter(move |&&word| is_chosen(set, word));
+        chosen.map(|&word| (tail_of(word), head_of(word), word % 2))
     }
 
     /// Rounds of the scan from `x` until one sets nothing: whether that was within the budget, and how many were run.

@@ -6,21 +6,62 @@ use crate::nets::row_size;
 /// The most words that a row has.
 const ROW_LIMIT: usize = 16;
 
-/// What a net supports, whatever the rows held: bit y of the row of x is set in `yes` where x is y, and in `no` where x is not y. Both have
-/// all rows and nothing behind them, and the links come as tail, head and sign.
+/// A link: its tail, its head and its sign.
+type Link = (usize, usize, u32);
+
+/// What a net supports, whatever the rows held: bit y of the row of x is set in `yes` where x is y, and in `no` where x is not y. Both
+/// have all rows and nothing behind them.
 pub fn fill(
     objects: usize,
     nodes: usize,
-    links: impl Iterator<Item = (usize, usize, u32)>,
+    links: impl Iterator<Item = Link>,
     yes: &mut [u64],
     no: &mut [u64],
 ) {
-    let size = row_size(nodes);
+    fill_rows::<0>(objects, nodes, links, yes, no);
+}
+
+/// The same by code that the compiler makes for each size of a row, so that every loop over one is unrolled.
+pub fn fill_by_size(
+    objects: usize,
+    nodes: usize,
+    links: impl Iterator<Item = Link>,
+    yes: &mut [u64],
+    no: &mut [u64],
+) {
+    macro_rules! by_size {
+        ($($size:literal)*) => {
+            match row_size(nodes) {
+                $($size => fill_rows::<$size>(objects, nodes, links, yes, no),)*
+                _ => fill_rows::<0>(objects, nodes, links, yes, no),
+            }
+        };
+    }
+    by_size!(1 2 3 4 5 6 7 8 9 10 11 12 13 14 15 16)
+}
+
+/// The words of one row: SIZE, or what follows from the nodes where SIZE is 0.
+fn size_of<const SIZE: usize>(nodes: usize) -> usize {
+    if SIZE == 0 {
+        row_size(nodes)
+    } else {
+        SIZE
+    }
+}
+
+fn fill_rows<const SIZE: usize>(
+    objects: usize,
+    nodes: usize,
+    links: impl Iterator<Item = Link>,
+    yes: &mut [u64],
+    no: &mut [u64],
+) {
     yes.fill(0);
     no.fill(0);
     if objects == nodes {
         return;
     }
+    let size = size_of::<SIZE>(nodes);
     for p in objects..nodes {
         put(&mut yes[p * size..], p);
     }
@@ -34,9 +75,9 @@ pub fn fill(
             put(&mut no[head * size..], tail);
         }
     }
-    close(objects, nodes, size, yes);
-    gather(size, yes, no);
-    pass_down(objects, size, yes, no);
+    close::<SIZE>(objects, nodes, yes);
+    gather::<SIZE>(nodes, yes, no);
+    pass_down::<SIZE>(objects, nodes, yes, no);
 }
 
 fn put(row: &mut [u64], y: usize) {
@@ -59,7 +100,8 @@ fn meet(row: &[u64], other: &[u64]) -> bool {
 }
 
 /// Warshall: what is q is whatever q is, for each kind q in turn.
-fn close(objects: usize, nodes: usize, size: usize, yes: &mut [u64]) {
+fn close<const SIZE: usize>(objects: usize, nodes: usize, yes: &mut [u64]) {
+    let size = size_of::<SIZE>(nodes);
     let mut held = [0; ROW_LIMIT];
     let held = &mut held[..size];
     for q in objects..nodes {
@@ -73,7 +115,8 @@ fn close(objects: usize, nodes: usize, size: usize, yes: &mut [u64]) {
 }
 
 /// What x is, is not something: neither is x.
-fn gather(size: usize, yes: &[u64], no: &mut [u64]) {
+fn gather<const SIZE: usize>(nodes: usize, yes: &[u64], no: &mut [u64]) {
+    let size = size_of::<SIZE>(nodes);
     let mut held = [0; ROW_LIMIT];
     let held = &mut held[..size];
     for (x, kinds) in yes.chunks_exact(size).enumerate() {
@@ -85,15 +128,16 @@ fn gather(size: usize, yes: &[u64], no: &mut [u64]) {
 }
 
 /// Where x is not something, it is none of the kinds that are.
-fn pass_down(objects: usize, size: usize, yes: &[u64], no: &mut [u64]) {
+fn pass_down<const SIZE: usize>(objects: usize, nodes: usize, yes: &[u64], no: &mut [u64]) {
+    let size = size_of::<SIZE>(nodes);
     let kinds = &yes[objects * size..];
     for row in no.chunks_exact_mut(size) {
         if row.iter().all(|&word| word == 0) {
             continue;
         }
-        for (at, kind) in kinds.chunks_exact(size).enumerate() {
-            if meet(kind, row) {
-                put(row, objects + at);
+        for (y, kind) in (objects..).zip(kinds.chunks_exact(size)) {
+            if !has(row, y) && meet(kind, row) {
+                put(row, y);
             }
         }
     }
