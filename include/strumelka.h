@@ -18,7 +18,7 @@
  *     object of the element's type with length 0. Nothing is read or written through it.
  *
  * What no line names keeps its contents: marks from o + k on, the scratch from 2 * (o + k) on, and, but for a compaction,
- * a list after what is written to its front are never touched.
+ * a list after what is written to its front hold afterwards what they held before.
  *
  * The library keeps nothing between calls, allocates nothing and calls nothing but memory functions of the C library:
  * calls from several threads may run at once where none writes to a buffer that another one reads or writes. The code is
@@ -130,8 +130,8 @@ struct strumelka_answer strumelka_check_word(uint32_t o, uint32_t k, uint32_t wo
  *   15  set is over STRUMELKA_ALL_ORIGINS
  *   3   some word, of whatever origin, is illegal; first = the index of the first such word among all words,
  *       second = its cause, STRUMELKA_CAUSE_ORIGIN, _TAIL or _HEAD
- * In every function below 1, 2, 15 and 3 mean the same, with the same values, and all buffers are as they were; a
- * compaction, which takes plain words and no set, says what is different there. */
+ * In every function below 1, 2, 15 and 3 mean the same, with the same values, and all buffers are as they were;
+ * compaction and mending, which take plain words and no set, say what is different there. */
 struct strumelka_answer strumelka_check_net(
     uint32_t o, uint32_t k, const uint32_t *words, size_t words_len, uint32_t set);
 
@@ -187,8 +187,8 @@ struct strumelka_answer strumelka_completion(
 
 /* The same completion by rows of bits in lent words of 64, far quicker on a large net. With w = (o + k + 63) / 64, row x has
  * the w words from x * w on, and its bit y is bit y % 64 of the word x * w + y / 64. Afterwards that bit is set in yes
- * exactly if node x is of kind y, and in no exactly if it is not, as far as the net supports it, whatever the rows held
- * before. Bits of objects, and those from o + k on, are zero.
+ * exactly if the net supports that node x is of kind y, and in no exactly if it supports that x is not, whatever the rows
+ * held before. Bits of objects, and those from o + k on, are zero.
  *   0            first = the words written to the front of list; places after them unchanged
  *   1, 2, 15, 3  as in strumelka_check_net
  *   5            yes_len or no_len is below STRUMELKA_ROWS(o, k); yes, no and list unchanged
@@ -246,7 +246,7 @@ struct strumelka_answer strumelka_mend(
 
 /* The valuation of the net, a model of its links in which a statement holds exactly if the net supports it. Its elements
  * are the objects and a witness for each kind, in node order: the element of node x has the row of k bytes from x * k on,
- * and the byte of kind y is x * k + (y - o).
+ * and the byte of kind y stands at place x * k + (y - o).
  *   0            the byte of every node and kind = STRUMELKA_ANSWER_NONE, _YES, _NO or _BOTH, as strumelka_question
  *                answers; bytes of table after them unchanged; the first o + k bytes of marks are zero
  *   1, 2, 15, 3  as in strumelka_check_net

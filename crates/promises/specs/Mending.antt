@@ -22,16 +22,16 @@ MendsTo e o k ws out ds = (kept dropped m : List ℕ) → o + k ≤ length m →
 pub record Mending (e : Engine) : Type 0 where
   -- A net is mended word by word in listed order: a word is kept exactly if those kept so far have no clash together with it.
   pub lists : (o k : ℕ) (ws : List ℕ) → Net o k ws → (out : List ℕ) × (ds : List DroppedWord) × MendsTo e o k ws out ds × Mended o k [] ws out ds
-  -- The kept words are a part of the words read, in their order, and each word is kept or dropped.
+  -- The kept words are a part of the words read, in their order, and together with the dropped ones they are as many.
   pub part : (o k : ℕ) (ws : List ℕ) → Net o k ws → (out : List ℕ) (ds : List DroppedWord) → MendsTo e o k ws out ds → PartOf out ws × (length out + length ds ≡ length ws)
   -- They have no clash; so the clash test gives number 7.
   pub free : (o k : ℕ) (ws : List ℕ) → Net o k ws → (out : List ℕ) (ds : List DroppedWord) → MendsTo e o k ws out ds → ClashFree o k out
   pub tested : (o k : ℕ) (ws : List ℕ) → Net o k ws → (out : List ℕ) (ds : List DroppedWord) → MendsTo e o k ws out ds → (z : ℕ) → HasZero z → (m : List ℕ) → o + k ≤ length m
       → e .clashTest o k out z m .answer ≡ clashed.Nowhere
-  -- A dropped word has the smallest clash that it makes with the words kept before it,
+  -- A dropped word has the smallest clash that it makes with a front part of the kept words: those kept before it, as `lists` says,
   pub smallest : (o k : ℕ) (ws : List ℕ) → Net o k ws → (out : List ℕ) (ds : List DroppedWord) → MendsTo e o k ws out ds → (d : DroppedWord) → List·Memᴰ d ds → Rejected o k out d
   -- and put back among all kept words it makes a clash there.
   pub back : (o k : ℕ) (ws : List ℕ) → Net o k ws → (out : List ℕ) (ds : List DroppedWord) → MendsTo e o k ws out ds → (d : DroppedWord) → List·Memᴰ d ds
       → ClashAt o k (out ++ d .word ∷ []) (d .node) (d .kind)
-  -- A net without clashes comes out unchanged, repeats included.
+  -- A net without clashes is kept whole, word for word.
   pub unchanged : (o k : ℕ) (ws : List ℕ) → Net o k ws → (out : List ℕ) (ds : List DroppedWord) → MendsTo e o k ws out ds → ClashFree o k ws → (out ≡ ws) × (ds ≡ [])

@@ -28,7 +28,7 @@ Wide l = (i : ℕ) → getD l i 0 < 2 ^ 64
 abbrev pub bitAt : List ℕ → ℕ → ℕ → Bool
 bitAt l a y = has (y % 64) (getD l (a + y / 64) 0)
 
--- The meaning: bit y of row x is set exactly if the statement of x and y is supported. So bits at objects, and from the last node on, are not.
+-- The meaning: bit y of row x is set exactly if the statement of x and y is supported. So bits at objects, and behind the last node, are not.
 abbrev pub Exact : ℕ → ℕ → List ℕ → Sign → List ℕ → Type 0
 Exact o k ws s l = (x y : ℕ) → x < o + k → y < width (o + k) * 64 → (bitAt l (x * width (o + k)) y ≡ true) ↔ Supported o k (Links ws) x y s
 

@@ -41,7 +41,7 @@ Implies o L x y s = (D : Type 0) (v : Valuation o D) → Model L v → HoldsIn v
 
 -- ── over the nodes ──
 
--- The elements are the objects and one witness for each kind, in node order.
+-- An element for every node: an object stands for itself, a kind has a witness.
 pub record Element (n : ℕ) : Type 0 where
   pub at : ℕ
   pub low : at < n

@@ -19,6 +19,6 @@ unfoldable pub valueRows : ℕ → ℕ → List ℕ → ℕ → ℕ → List ℕ
 valueRows o k ws x zero = []
 valueRows o k ws x (suc j) = valueRow (fullMarks o k ws x) o k ++ valueRows o k ws (suc x) j
 
--- The whole table: the objects and one witness for each kind, in node order.
+-- The whole table: a row for every node in turn, object or witness of a kind.
 unfoldable pub ownValues : ℕ → ℕ → List ℕ → List ℕ
 ownValues o k ws = valueRows o k ws 0 (o + k)
