@@ -62,8 +62,8 @@ extern "C" {
 #define STRUMELKA_ALL_ORIGINS 15u
 
 /* Buffer sizes for a net of o objects and k kinds, and of so many words, in elements; constant where these are.
- * MARKS, SCRATCH, ROWS, DROPPED_LIST and TABLE are what a call needs, and less is refused. REASON_LIST and COMPLETION_LIST
- * are the most that any net of that size can need: a shorter list is fine where the result fits it. */
+ * MARKS, SCRATCH, ROWS, DROPPED_LIST and TABLE are what a call needs, and less is refused. REASON_LIST, COMPLETION_LIST and
+ * PROOF_LIST are the most that any net of that size can need: a shorter list is fine where the result fits it. */
 #define STRUMELKA_MARKS(o, k) ((size_t)(o) + (size_t)(k))
 #define STRUMELKA_SCRATCH(o, k) (2u * STRUMELKA_MARKS(o, k))
 #define STRUMELKA_ROWS(o, k) (STRUMELKA_MARKS(o, k) * ((STRUMELKA_MARKS(o, k) + 63u) / 64u))
@@ -71,6 +71,8 @@ extern "C" {
 #define STRUMELKA_COMPLETION_LIST(o, k) (2u * STRUMELKA_MARKS(o, k) * (size_t)(k))
 #define STRUMELKA_DROPPED_LIST(words) ((size_t)3 * (size_t)(words))
 #define STRUMELKA_TABLE(o, k) (STRUMELKA_MARKS(o, k) * (size_t)(k))
+#define STRUMELKA_PROOF_LIST(o, k) \
+    ((size_t)(k) < 128u ? 16u * (size_t)(k) + 1u : (o) > 0 ? (size_t)2038u : (size_t)2033u)
 
 /* The bits of a byte of marks. */
 #define STRUMELKA_MARK_T 1u
@@ -90,8 +92,24 @@ extern "C" {
 /* The most pairs of a screenful. */
 #define STRUMELKA_PAIR_LIMIT 64u
 
-/* The numbers. Where several apply, the one that stands first here is given: 15 comes before 3, and 10 before 5. (Number
- * 9 is about net files, which no function here reads.) */
+/* The most sequents on a branch of a proof, and what the check of a proof gives where no one step is at fault. */
+#define STRUMELKA_SEQUENT_LIMIT 255u
+#define STRUMELKA_NO_STEP 4294967295u
+
+/* The rules of a proof, the first number of each step. An axiom is a link of an object, or a statement that a rule has
+ * added. A right rule shows a statement about a kind by one about a fresh object. A left rule goes by a link between two
+ * kinds, tail and head, and by an object: it shows the statement of its left premise, and its main premise may use another. */
+#define STRUMELKA_RULE_AXIOM_IS 0u
+#define STRUMELKA_RULE_AXIOM_IS_NOT 1u
+#define STRUMELKA_RULE_RIGHT_IS 2u
+#define STRUMELKA_RULE_RIGHT_IS_NOT 3u
+#define STRUMELKA_RULE_LEFT_IS 4u          /* "is": shows that the object is of the tail, adds that it is of the head */
+#define STRUMELKA_RULE_LEFT_IS_BACK 5u     /* "is": shows that it is not of the head, adds that it is not of the tail */
+#define STRUMELKA_RULE_LEFT_IS_NOT 6u      /* "is not": shows that it is of the tail, adds that it is not of the head */
+#define STRUMELKA_RULE_LEFT_IS_NOT_BACK 7u /* "is not": shows that it is of the head, adds that it is not of the tail */
+
+/* The numbers. Where several apply, the one that stands first here is given: 15 comes before 3, 10 before 5, and 11 before
+ * 8. (Number 9 is about net files, which no function here reads.) */
 #define STRUMELKA_NUMBER_DONE 0u
 #define STRUMELKA_NUMBER_TOO_MANY_NODES 1u
 #define STRUMELKA_NUMBER_TOO_MANY_WORDS 2u
@@ -103,7 +121,9 @@ extern "C" {
 #define STRUMELKA_NUMBER_BAD_TABLE 13u
 #define STRUMELKA_NUMBER_BUDGET_SPENT 6u
 #define STRUMELKA_NUMBER_NOTHING_FOUND 7u
+#define STRUMELKA_NUMBER_TOO_DEEP 11u
 #define STRUMELKA_NUMBER_SHORT_LIST 8u
+#define STRUMELKA_NUMBER_BAD_PROOF 12u
 
 /* Why a word is illegal; the origin is looked at first, then the tail. */
 #define STRUMELKA_CAUSE_ORIGIN 3u /* its origin is above 3 */
@@ -292,6 +312,38 @@ struct strumelka_answer strumelka_reason_check(
     uint32_t o, uint32_t k, const uint32_t *words, size_t words_len, uint32_t set,
     uint32_t x, uint32_t y, uint32_t sign,
     const uint16_t *list, size_t list_len);
+
+/* The proof of a statement, node x is of kind y (sign STRUMELKA_IS) or is not (STRUMELKA_IS_NOT), by the rules of a sequent
+ * calculus, built from the shortest reason. The list begins with the number of branches and, for each of them, the place of
+ * its first step and the number of its steps: branch 0 is the whole proof, branch i the left premise of the i-th left rule.
+ * The steps follow, three places each: STRUMELKA_RULE_.., the object, and the link or the statement as a plain word. Each
+ * stands before its left premise, and that before the main one. The fresh object has the number o + k.
+ *   0            first = the places written to the front of list; places after them unchanged
+ *   1, 2, 15, 3  as in strumelka_check_net
+ *   4            x is no node, y is no kind, or sign is neither of the two; scratch and list unchanged
+ *   5            scratch_len is below STRUMELKA_SCRATCH(o, k); scratch and list unchanged
+ *   7            the net does not support the statement; list unchanged
+ *   11           the proof has more than STRUMELKA_SEQUENT_LIMIT sequents on a branch; list unchanged
+ *   8            list_len is too small; first = the places needed; list unchanged
+ * With 0, 7, 11 and 8 the scratch is as strumelka_reason leaves it. */
+struct strumelka_answer strumelka_proof(
+    uint32_t o, uint32_t k, const uint32_t *words, size_t words_len, uint32_t set,
+    uint32_t x, uint32_t y, uint32_t sign,
+    uint16_t *scratch, size_t scratch_len, uint32_t *list, size_t list_len);
+
+/* The check of a proof from anybody: does list prove the statement from the net's links, with nothing after it? Links may be
+ * used any number of times. Nothing is written. The call goes as deep as the proof, so that its stack grows with it, up to
+ * STRUMELKA_SEQUENT_LIMIT sequents.
+ *   0            it does, and the net supports the statement
+ *   1, 2, 15, 3  as in strumelka_check_net
+ *   4            x is no node, y is no kind, or sign is neither of the two
+ *   12           it does not: it is malformed, a step is not by its rule, it proves another statement or has more than
+ *                STRUMELKA_SEQUENT_LIMIT sequents on a branch; first = the first step at fault, counted from 0 in the order of
+ *                the list, or STRUMELKA_NO_STEP where no one step is, as in a list that is cut short or has wrong contents */
+struct strumelka_answer strumelka_proof_check(
+    uint32_t o, uint32_t k, const uint32_t *words, size_t words_len, uint32_t set,
+    uint32_t x, uint32_t y, uint32_t sign,
+    const uint32_t *list, size_t list_len);
 
 #ifdef __cplusplus
 }

@@ -7,6 +7,7 @@ use crate::fields::Field;
 use crate::nets::{draw_illegal, draw_origin, plain, word, Net, ALL_ORIGINS};
 use crate::operations::Operation;
 use crate::paths::draw_path;
+use crate::proofs::draw_proof;
 use crate::random::Random;
 
 /// A case of the operation on the net.
@@ -21,6 +22,9 @@ pub fn draw_case<'a>(
     let mut case = Case { operation, values };
     if operation.fields.contains(&Field::Path) {
         draw_path(random, net, operations, &mut case);
+    }
+    if operation.fields.contains(&Field::Proof) {
+        draw_proof(random, net, operations, &mut case);
     }
     if operation.fields.contains(&Field::Links) && net.words.len() < 20 && random.chance(25) {
         case.set(Field::Links, completed(net, operations));
@@ -86,7 +90,7 @@ fn draw_field(random: &mut Random, net: &Net, field: Field) -> Vec<u64> {
             let values = (0..size).map(|_| random.below(4) as u64).collect();
             spoilt(random, values)
         }
-        Field::Answers | Field::List | Field::Reason | Field::Path => Vec::new(),
+        Field::Answers | Field::List | Field::Reason | Field::Path | Field::Proof => Vec::new(),
         Field::File => draw_file(random, net),
         Field::Byte => vec![random.below(256) as u64],
     }

@@ -28,6 +28,7 @@ pub enum Field {
     Scratch,
     Reason,
     Path,
+    Proof,
     File,
     Byte,
 }
@@ -58,7 +59,7 @@ const fn shape(name: &'static str, field: Field, width: usize, most: usize, lent
     }
 }
 
-static SHAPES: [Shape; 28] = [
+static SHAPES: [Shape; 29] = [
     number("o", Field::Objects),
     number("k", Field::Kinds),
     shape("words", Field::Words, 4, 16_384, false),
@@ -85,6 +86,7 @@ static SHAPES: [Shape; 28] = [
     shape("scratch", Field::Scratch, 2, 4_096, true),
     shape("reason", Field::Reason, 2, 4_096, true),
     shape("path", Field::Path, 2, 4_096, false),
+    shape("proof", Field::Proof, 4, 16_384, false),
     shape("file", Field::File, 1, 32_769, false),
     number("byte", Field::Byte),
 ];

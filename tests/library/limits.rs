@@ -1,5 +1,5 @@
 //! Calls with more words than a case can have: the largest list that is allowed, and one word more. And the largest table of a valuation,
-//! and the largest rows.
+//! the largest rows, and the deepest proofs.
 
 use crate::answer::Answer;
 use crate::call::{run, Outcome};
@@ -11,6 +11,7 @@ use crate::nets::{
 };
 use crate::operations::{Effort, Operation};
 use crate::random::Random;
+use crate::sequents::{listed, Step};
 use crate::tally::Tally;
 
 const MEND: &str = "mend";
@@ -80,7 +81,8 @@ pub fn calls_at_limit(
     }
     mend_clashing(operations, tally)?;
     fill_largest_table(operations, tally)?;
-    complete_longest_chain(operations, tally)
+    complete_longest_chain(operations, tally)?;
+    prove_deepest(operations, tally)
 }
 
 /// As many words as are allowed, none of which can be kept: what is kept is read again for every word, so that others would take
@@ -245,6 +247,64 @@ fn complete_longest_chain(operations: &[Operation], tally: &mut Tally) -> Result
             _ => vec![y as u64],
         });
         hold(&case, &Outcome::unchanged(&case, answer), tally)?;
+    }
+    Ok(())
+}
+
+/// A chain that begins with an object, and one of kinds alone. Up to one of its kinds the proof has as many sequents on a branch as are allowed; up to the next
+/// it has one more, and the last of them is at fault. Each proof with room for it, and with a place too few.
+fn prove_deepest(operations: &[Operation], tally: &mut Tally) -> Result<(), String> {
+    const DEEPEST: usize = 255;
+    const NO_WAY: u64 = 65_535;
+    for (o, last) in [(1, DEEPEST), (0, DEEPEST - 2)] {
+        let nodes = last + 2;
+        let words: Vec<u32> = (1..nodes).map(|v| word(v - 1, v, 0)).collect();
+        let own = if o == 1 { 0 } else { nodes };
+        let fill = |field, y: usize| match field {
+            Field::Objects => vec![o as u64],
+            Field::Kinds => vec![(nodes - o) as u64],
+            Field::Words => widened(&words),
+            Field::Set => vec![ALL_ORIGINS.into()],
+            Field::Kind => vec![y as u64],
+            _ => vec![0],
+        };
+        for y in [last, last + 1] {
+            let step = |rule, link| -> Step { [rule, own as u32, link] };
+            let first = (o == 0).then(|| step(2, word(0, y, 0)));
+            let left = (o + 1..=y).rev().map(|v| step(4, word(v - 1, v, 0)));
+            let axioms = (o..=y).map(|v| step(0, word(own, v, 0)));
+            let steps: Vec<Step> = first.into_iter().chain(left).chain(axioms).collect();
+            let list = widened(&listed(&steps));
+            let ways = (0..2 * nodes).map(|v| if v <= y { (y - v) as u64 } else { NO_WAY });
+            let scratch: Vec<u64> = ways.chain([9]).collect();
+            for room in [list.len() + 1, list.len() - 1] {
+                let case = Case::filled(operations, "proof", |field| match field {
+                    Field::Scratch => vec![9; 2 * nodes + 1],
+                    Field::List => vec![7; room],
+                    _ => fill(field, y),
+                });
+                let (answer, left) = match (y > last, room < list.len()) {
+                    (true, _) => (Answer::new(11, 0, 0), vec![7; room]),
+                    (_, true) => (Answer::new(8, list.len() as u32, 0), vec![7; room]),
+                    _ => {
+                        let mut written = list.clone();
+                        written.push(7);
+                        (Answer::new(0, list.len() as u32, 0), written)
+                    }
+                };
+                let lists = vec![scratch.clone(), left];
+                hold(&case, &Outcome { answer, lists }, tally)?;
+            }
+            let case = Case::filled(operations, "proof_check", |field| match field {
+                Field::Proof => list.clone(),
+                _ => fill(field, y),
+            });
+            let answer = match y > last {
+                true => Answer::new(12, DEEPEST as u32, 0),
+                false => Answer::new(0, 0, 0),
+            };
+            hold(&case, &Outcome::unchanged(&case, answer), tally)?;
+        }
     }
     Ok(())
 }

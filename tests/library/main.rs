@@ -13,9 +13,11 @@ mod limits;
 mod nets;
 mod operations;
 mod paths;
+mod proofs;
 mod random;
 mod replay;
 mod rules;
+mod sequents;
 mod tally;
 
 use std::io::{self, BufWriter, Write};

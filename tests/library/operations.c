@@ -9,6 +9,10 @@ _Static_assert(STRUMELKA_ORIGIN_OF(ANY_WORD) == 3u && STRUMELKA_TAIL(ANY_WORD) =
 _Static_assert(STRUMELKA_HEAD(ANY_WORD) == 514u && STRUMELKA_SIGN(ANY_WORD) == STRUMELKA_IS_NOT, "its head and sign");
 _Static_assert((STRUMELKA_FROM(0) | STRUMELKA_FROM(1) | STRUMELKA_FROM(2) | STRUMELKA_FROM(3)) == STRUMELKA_ALL_ORIGINS, "the sets");
 
+/* The longest proofs: a kind that is not itself, up and down as many kinds as fit the depth, and an object's with as many links as sequents. */
+_Static_assert(STRUMELKA_PROOF_LIST(0, 1) == 17u && STRUMELKA_PROOF_LIST(9, 127) == 2033u, "proofs of few kinds");
+_Static_assert(STRUMELKA_PROOF_LIST(0, 128) == 2033u && STRUMELKA_PROOF_LIST(1, 128) == 2038u, "proofs of many kinds");
+
 /* A field of a case as it is handed over: a number, or a list and its length. */
 struct field {
     uint32_t number;
@@ -69,7 +73,12 @@ struct operation {
     _(reason, "o k words set node kind sign scratch reason", "0 1 2 15 3 4 5 7 8", ONCE,        \
       NET, NUMBER(4), NUMBER(5), NUMBER(6), HALVES(7), HALVES(8))                               \
     _(reason_check, "o k words set node kind sign path", "0=0 0=1 1 2 15 3 4", ONCE,            \
-      NET, NUMBER(4), NUMBER(5), NUMBER(6), HALVES(7))
+      NET, NUMBER(4), NUMBER(5), NUMBER(6), HALVES(7))                                          \
+    _(proof, "o k words set node kind sign scratch list", "0 1 2 15 3 4 5 7 11 8", ONCE,        \
+      NET, NUMBER(4), NUMBER(5), NUMBER(6), HALVES(7), WORDS(8))                                \
+    _(proof_check, "o k words set node kind sign proof",                                        \
+      "0 1 2 15 3 4 12=0 12=4294967295 12", ONCE,                                               \
+      NET, NUMBER(4), NUMBER(5), NUMBER(6), WORDS(7))
 
 static void take(struct strumelka_answer given, uint32_t answer[3])
 {

@@ -94,7 +94,7 @@ fn without_first_part(random: &mut Random, net: &Net, set: u32, case: &mut Case)
 }
 
 /// Asks for a statement.
-fn state(case: &mut Case, x: u32, y: u32, sign: u32) {
+pub fn state(case: &mut Case, x: u32, y: u32, sign: u32) {
     case.set(Field::Node, widened(&[x]));
     case.set(Field::Kind, widened(&[y]));
     case.set(Field::Sign, widened(&[sign]));

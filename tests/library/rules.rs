@@ -1,5 +1,5 @@
-//! Rules (3.1) to (3.5) as they stand in the request, closed over a small net by trying every rule on every pair, and the conditions of
-//! the report's section 6. What a call answers is held to them by code that the kit did not compile.
+//! Rules (3.1) to (3.5) as they stand in the request, closed over a small net by trying every rule on every pair, the rules of the report's
+//! section 4 and the conditions of its section 6. What a call answers is held to them by code that the kit did not compile.
 
 use std::collections::BTreeSet;
 
@@ -7,15 +7,21 @@ use crate::call::Outcome;
 use crate::case::{widened, Case};
 use crate::fields::Field;
 use crate::nets::{head_of, is_chosen, plain, row_size, tail_of, word, ALL_ORIGINS};
+use crate::sequents::verdict;
 
 const SMALL_NET: usize = 7;
 /// The answer to a pair that is bad.
 const BAD_PAIR: u64 = 255;
 
+/// The chosen words of a legal net, without their origins.
+fn chosen(words: &[u32], origins: u32) -> BTreeSet<u32> {
+    let chosen = words.iter().filter(|&&it| is_chosen(origins, it));
+    chosen.map(|&it| plain(it)).collect()
+}
+
 /// The plain words of all statements that the chosen words of a legal net support.
 fn supported(o: usize, nodes: usize, words: &[u32], origins: u32) -> BTreeSet<u32> {
-    let chosen = words.iter().filter(|&&it| is_chosen(origins, it));
-    let mut set: BTreeSet<u32> = chosen.map(|&it| plain(it)).collect();
+    let mut set = chosen(words, origins);
     set.extend((o..nodes).map(|p| word(p, p, 0))); // (3.1)
     loop {
         let known: Vec<(usize, usize, usize)> = set
@@ -116,16 +122,17 @@ impl Supported {
     }
 }
 
-/// Holds what a call that was done on a small net answered to the rules, where they decide it. Whether they do.
+/// Holds what a call that was done on a small net, or found a proof at fault, answered to the rules, where they decide it. Whether they do.
 pub fn held_to_rules(case: &Case, found: &Outcome) -> Result<bool, String> {
     let number = |field| case.values_of(field).first().map_or(0, |&it| it as usize);
     let o = number(Field::Objects);
     let nodes = o + number(Field::Kinds);
-    if found.answer.number != 0 || nodes > SMALL_NET {
+    if ![0, 12].contains(&found.answer.number) || nodes > SMALL_NET {
         return Ok(false);
     }
     let origins = number(Field::Set) as u32;
-    let set = supported(o, nodes, &case.words_of(Field::Words), origins);
+    let words = case.words_of(Field::Words);
+    let set = supported(o, nodes, &words, origins);
     let net = Supported { o, nodes, set };
     let holds = match case.operation.name {
         "question" => {
@@ -179,6 +186,23 @@ pub fn held_to_rules(case: &Case, found: &Outcome) -> Result<bool, String> {
             let [x, y, sign] = [Field::Node, Field::Kind, Field::Sign].map(number);
             let model = case.values_of(Field::Model);
             found.answer.first == satisfied(o, nodes, model, x, y, sign) as u32
+        }
+        "proof" | "proof_check" => {
+            let [x, y, sign] = [Field::Node, Field::Kind, Field::Sign].map(number);
+            let goal = word(x, y, sign);
+            let list: Vec<u32> = match case.operation.name {
+                "proof" => {
+                    let written = found.lists[1].iter().take(found.answer.first as usize);
+                    written.map(|&it| it as u32).collect()
+                }
+                _ => case.words_of(Field::Proof),
+            };
+            let answered = match case.operation.name {
+                "proof" => (0, 0),
+                _ => (found.answer.number, found.answer.first),
+            };
+            verdict(o, nodes, &chosen(&words, origins), goal, &list) == answered
+                && (answered.0 != 0 || net.set.contains(&goal))
         }
         _ => return Ok(false),
     };

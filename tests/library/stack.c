@@ -11,7 +11,7 @@
 
 #define COUNT(list) (sizeof(list) / sizeof(list)[0])
 
-enum { STACK_SIZE = 65536, STACK_LIMIT = 1024, MOST_FIELDS = 16 };
+enum { STACK_SIZE = 1048576, STACK_LIMIT = 1024, MOST_FIELDS = 16 };
 
 /* 0 is of kind 24, that of 25, that not of 26; the last kind is not itself, so that a clash is found at the last node. */
 #define OBJECTS 24u
@@ -50,6 +50,11 @@ static uint64_t yes[STRUMELKA_ROWS(OBJECTS, KINDS)];
 static uint64_t no[STRUMELKA_ROWS(OBJECTS, KINDS)];
 static uint16_t reason[16];
 
+/* A proof that 0 is not of 26, as deep as is allowed, and deep in left premises: it goes by 25, shown by way of 24, and that 0 is of 24 is shown by way of
+ * itself, over and over. */
+enum { DEPTH = STRUMELKA_SEQUENT_LIMIT, BRANCHES = DEPTH, STEPS = 2 * DEPTH - 1, FIRST_STEP = 1 + 2 * BRANCHES };
+static uint32_t proof[FIRST_STEP + 3 * STEPS];
+
 /* What is handed over for each kind of field. */
 static const struct {
     const char *name;
@@ -73,6 +78,7 @@ static const struct {
     {"scratch", {0, scratch, COUNT(scratch)}},
     {"reason", {0, reason, COUNT(reason)}},
     {"path", {0, path, COUNT(path)}},
+    {"proof", {0, proof, COUNT(proof)}},
     {"pairs", {0, pairs, COUNT(pairs)}},
     {"answers", {0, answers, COUNT(answers)}},
     {"links", {0, links, COUNT(links)}},
@@ -92,6 +98,31 @@ static _Alignas(64) unsigned char stack[STACK_SIZE];
 static unsigned char paint;
 static size_t unwritten;
 static ucontext_t outside, inside;
+
+static void put_step(int at, uint32_t rule, uint32_t link)
+{
+    uint32_t *step = proof + FIRST_STEP + 3 * at;
+    step[0] = rule;
+    step[1] = 0;
+    step[2] = link;
+}
+
+/* The left rules, then the axiom of the last one's left premise, then those of the main premises, the last one's first. */
+static void fill_proof(void)
+{
+    proof[0] = BRANCHES;
+    for (int i = 0; i < BRANCHES; i++) {
+        proof[1 + 2 * i] = (uint32_t)(FIRST_STEP + 3 * i);
+        proof[2 + 2 * i] = (uint32_t)(STEPS - 2 * i);
+    }
+    put_step(0, STRUMELKA_RULE_LEFT_IS_NOT, STRUMELKA_WORD(25, 26, STRUMELKA_IS_NOT));
+    for (int i = 1; i < DEPTH - 1; i++)
+        put_step(i, STRUMELKA_RULE_LEFT_IS, STRUMELKA_WORD(24, 25, STRUMELKA_IS));
+    for (int i = DEPTH - 1; i < STEPS - 2; i++)
+        put_step(i, STRUMELKA_RULE_AXIOM_IS, STRUMELKA_WORD(0, 24, STRUMELKA_IS));
+    put_step(STEPS - 2, STRUMELKA_RULE_AXIOM_IS, STRUMELKA_WORD(0, 25, STRUMELKA_IS));
+    put_step(STEPS - 1, STRUMELKA_RULE_AXIOM_IS_NOT, STRUMELKA_WORD(0, 26, STRUMELKA_IS_NOT));
+}
 
 /* The fields of an operation; 0 where this file has no value for one of them. */
 static int fill_fields(const char *kinds)
@@ -151,6 +182,7 @@ static void nothing(const struct field *ignored, uint32_t unchanged[3])
 int main(void)
 {
     int status = 0;
+    fill_proof();
     call = nothing;
     size_t before = written();
     for (size_t i = 0; i < operations_len; i++) {
@@ -163,8 +195,8 @@ int main(void)
         }
         call = operation->call;
         size_t bytes = written() - before;
-        /* A reason has no limit. */
-        int limited = strcmp(operation->name, "reason") != 0;
+        /* A reason has no limit, and a proof is built from one; the check of a proof goes as deep as the proof. */
+        int limited = strcmp(operation->name, "reason") != 0 && strncmp(operation->name, "proof", 5) != 0;
         int over = limited && bytes > STACK_LIMIT;
         printf("%-18s %5zu bytes%s\n", operation->name, bytes, over ? ", over the limit" : limited ? "" : ", no limit");
         if (answer[0] != 0) {

@@ -25,6 +25,7 @@ use Rattle.completion.specs.declared.Completed.the-variants as completed
 use Rattle.compact.specs.Table.{CompactionOutcome, compactedReply}
 use Rattle.mend.specs.Table.{MendingOutcome, mendedReply}
 use Rattle.reason.specs.Table.{ReasonOutcome, reasonedReply}
+use Rattle.proof.specs.Table.{ProofOutcome, provedReply}
 use Rattle.valuation.specs.Table.{ValuationOutcome, filledReply}
 use Rattle.rows_completion.specs.Table.{RowsOutcome, rowsOutcome, rowsClauses, rowsDone, completedByRows}
 use Rattle.library_reply.specs.Fits.{Fits}
@@ -53,6 +54,10 @@ mendingGives s = mendedReply (s .answer)
 -- The reply of what a reason leaves.
 abbrev pub reasonGives : ReasonOutcome → Reply
 reasonGives s = reasonedReply (s .answer)
+
+-- The reply of what a proof leaves.
+abbrev pub proofGives : ProofOutcome → Reply
+proofGives s = provedReply (s .answer)
 
 -- The reply of what a valuation leaves.
 abbrev pub valuationGives : ValuationOutcome → Reply

@@ -1,5 +1,5 @@
-// The answers of scan, question, screenful of questions, clash test, completion, compaction, mending, reason, reason check, valuation
-// and its test, and question of rows, each as a reply. That of a completion by rows is a completion's.
+// The answers of scan, question, screenful of questions, clash test, completion, compaction, mending, reason, reason check, proof, proof check,
+// valuation and its test, and question of rows, each as a reply. That of a completion by rows is a completion's.
 ghost use mathlib.Core.Path.{_≡_};
 ghost use Rattle.scan.specs.Table.{scanReply};
 ghost use Rattle.question.specs.Table.{askedReply};
@@ -10,6 +10,8 @@ ghost use Rattle.compact.specs.Table.{compactedReply};
 ghost use Rattle.mend.specs.Table.{mendedReply};
 ghost use Rattle.reason.specs.Table.{reasonedReply};
 ghost use Rattle.reason_check.specs.Table.{verdictReply};
+ghost use Rattle.proof.specs.Table.{provedReply};
+ghost use Rattle.proof_check.specs.Table.{judgedReply};
 ghost use Rattle.valuation.specs.Table.{filledReply};
 ghost use Rattle.satisfies.specs.Table.{testedReply};
 ghost use Rattle.rows_answer.specs.Table.{answeredReply};
@@ -21,6 +23,8 @@ use mend::MendedNet;
 use net::Reply;
 use net::refusal_given;
 use net::reply_of;
+use proof::Proved;
+use proof_check::Judged;
 use question::Asked;
 use question::answer_number;
 use questions::AskedAll;
@@ -128,6 +132,30 @@ pub fn verdict_given(verdict: Verdict) -> Reply
         Verdict::Holds => reply_of(0, 1, 0),
         Verdict::Fails => reply_of(0, 0, 0),
         Verdict::Refused(refusal) => refusal_given(refusal),
+    }
+}
+
+// The reply of a proof.
+pub fn proved_given(proved: Proved) -> Reply
+    ensures { λ r. ⌜ r ≡ provedReply proved ⌝ }
+{
+    match proved {
+        Proved::Done(numbers) => reply_of(0, numbers, 0),
+        Proved::Unsupported => reply_of(7, 0, 0),
+        Proved::TooDeep => reply_of(11, 0, 0),
+        Proved::Short(needed) => reply_of(8, needed, 0),
+        Proved::Refused(refusal) => refusal_given(refusal),
+    }
+}
+
+// The reply of the check of a proof.
+pub fn judged_given(judged: Judged) -> Reply
+    ensures { λ r. ⌜ r ≡ judgedReply judged ⌝ }
+{
+    match judged {
+        Judged::Accepted => reply_of(0, 0, 0),
+        Judged::Faulty(step) => reply_of(12, step, 0),
+        Judged::Refused(refusal) => refusal_given(refusal),
     }
 }
 

@@ -26,6 +26,8 @@ use Rattle.mend.specs.Table.{mendingTable, mendingDone, mendedBy}
 use Rattle.reason.specs.Table.{reasonTable, reasonDone, reasoned}
 use Rattle.reason_check.specs.Table.{checkTable, checkDone, verdict}
 use Rattle.reason_check.specs.declared.Verdict.the-variants.{Holds, Fails}
+use Rattle.proof.specs.Table.{proofTable, proofDone, proved}
+use Rattle.proof_check.specs.Table.{judgedTable, judgedDone, judged}
 use Rattle.theory.specs.Valuations.{satisfies}
 use Rattle.valuation.specs.Values.{ownValues}
 use Rattle.valuation.specs.Table.{valuationTable, valuationDone, filledBy}
@@ -41,7 +43,7 @@ use Rattle.question.specs.Table.{questionTable, questionDone}
 use Rattle.questions.specs.Table.{questionsTable, questionsDone, questionedAll}
 use Rattle.netfile.specs.Table.{readFrom, fileTable, fileDone}
 use Rattle.netfile.proofs.Called.{file-called}
-use Rattle.promises.specs.Numbers.{wordNumber, checkedNumber, scanNumber, questionNumber, clashNumber, completionNumber, reasonNumber, verdictNumber, questionsNumber, compactionNumber, mendingNumber, valuationNumber, satisfiesNumber, rowsNumber, answerInRowsNumber, fileNumber}
+use Rattle.promises.specs.Numbers.{wordNumber, checkedNumber, scanNumber, questionNumber, clashNumber, completionNumber, reasonNumber, verdictNumber, questionsNumber, compactionNumber, mendingNumber, valuationNumber, satisfiesNumber, rowsNumber, answerInRowsNumber, proofNumber, proofCheckNumber, fileNumber}
 use Rattle.promises.specs.Engines.{ours}
 use Rattle.promises.specs.Demand1.{Demand1}
 use Rattle.promises.proofs.Deciding.{obeys}
@@ -132,6 +134,18 @@ module _ (o k : ℕ) (ws : List ℕ) (set : ℕ) where
       obeys rowsNumber _ _ (record { numbered = (refl, (refl, (refl, (refl, (refl, (refl, tt)))))); once = refl; nonzero = refl; zero = λ h. refl }) _
       refl
 
+  -- The proof: numbers 1, 2, 15, 3 to 5, 7, 11 and 8, or 0.
+  pub proof-obeys : (x y sign : ℕ) (d l : List ℕ) → Obeys proofNumber (proofTable o k ws set x y sign d l) (proofDone o (chosen set ws) x y sign d l (o + k)) (proved o k ws set x y sign d l)
+  proof-obeys x y sign d l =
+      obeys proofNumber _ _ (record { numbered = (refl, (refl, (refl, (refl, (refl, (refl, (refl, (refl, (refl, tt))))))))); once = refl; nonzero = refl; zero = λ h. refl }) _
+      refl
+
+  -- The proof check: numbers 1, 2, 15, 3, 4 and 12, or 0.
+  pub proof-check-obeys : (x y sign : ℕ) (l : List ℕ) → Obeys proofCheckNumber (judgedTable o k ws set x y sign l) judgedDone (judged o k ws set x y sign l)
+  proof-check-obeys x y sign l =
+      obeys proofCheckNumber _ _ (record { numbered = (refl, (refl, (refl, (refl, (refl, (refl, tt)))))); once = refl; nonzero = refl; zero = λ h. refl }) _
+      refl
+
 -- The compaction: numbers 1 to 3 and 5, or 0.
 pub compaction-obeys : (o k : ℕ) (ws m : List ℕ) → Obeys compactionNumber (compactionTable o k ws m) (compactionDone (compacted o k ws) ws m (o + k)) (compactedBy o k ws m)
 compaction-obeys o k ws m =
@@ -182,4 +196,6 @@ demand-1 = record {
   satisfies = satisfies-obeys;
   completionByRows = rows-obeys;
   answerInRows = answer-in-rows-obeys;
+  proof = proof-obeys;
+  proofCheck = proof-check-obeys;
 }

@@ -16,11 +16,14 @@ pub mod AskingAll
 pub mod PlainLists
 pub mod PlainValued
 pub mod PlainRows
+pub mod PlainProofs
 pub mod Valuing
 pub mod ByRows
+pub mod Proving
 pub mod Reordered
 pub mod ReorderedValues
 pub mod ReorderedRows
+pub mod ReorderedProofs
 pub mod NetAnswers
 pub mod Demand3
 pub mod FromKind

@@ -19,6 +19,7 @@ use Rattle.promises.proofs.Orders.{scan-order, question-order, question
 use Rattle.promises.proofs.Reordered.{completion-order, clash-order, reason-order, check-order}
 use Rattle.promises.proofs.ReorderedValues.{valuation-order}
 use Rattle.promises.proofs.ReorderedRows.{rows-order}
+use Rattle.promises.proofs.ReorderedProofs.{proof-order, proof-check-order}
 use Rattle.promises.proofs.NetAnswers.{keeps-said}
 use Rattle.promises.proofs.Demand3.{plain-read}
 
@@ -35,6 +36,8 @@ same-operations o k ws set vs set′ n p to back = record {
   questions = questions-order o k ws set vs set′ n p to back;
   valuation = valuation-order o k ws set vs set′ n p to back;
   completionByRows = rows-order o k ws set vs set′ n p to back;
+  proof = proof-order o k ws set vs set′ n p to back;
+  proofCheck = proof-check-order o k ws set vs set′ n p to back;
 }
 
 -- A net without its second word is a net.

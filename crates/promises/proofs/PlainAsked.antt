@@ -89,7 +89,7 @@ module _ (o k : ℕ) (ws : List ℕ) (set x y sign : ℕ) (d l : List ℕ) where
   reason-5 = then (reason-obeys o k ws set x y sign d l .exactly 5) (past-net o k ws set (both (good-statement o (o + k) x y sign) (clause-5-scratch o k ws d)))
 
   -- The scratch has 2N places.
-  room : (ltb (length d) ((o + k) + (o + k)) ≡ false) ↔ (2 * (o + k) ≤ length d)
+  pub room : (ltb (length d) ((o + k) + (o + k)) ≡ false) ↔ (2 * (o + k) ≤ length d)
   room = then (at-least (length d) ((o + k) + (o + k))) ((λ h. omega arith), λ h. omega arith)
 
   -- 7: nothing of that is wrong, and the statement is not supported.
@@ -102,7 +102,7 @@ module _ (o k : ℕ) (ws : List ℕ) (set x y sign : ℕ) (d l : List ℕ) where
 
   module _ (net : Net o k (chosen set ws)) (g : GoodStatement o (o + k) x y sign) where
     -- No second number of places is the shortest reason's.
-    one-size : (a b : ℕ) → ReasonOf o k (chosen set ws) x y sign a → ReasonOf o k (chosen set ws) x y sign b → a ≡ b
+    pub one-size : (a b : ℕ) → ReasonOf o k (chosen set ws) x y sign a → ReasonOf o k (chosen set ws) x y sign b → a ≡ b
     one-size a b r q =
         let (e, f) =
         shortest-unique o k (Links (chosen set ws)) (legal-links o k (chosen set ws) (net .legal)) x (g .pair .node) y (good-kind (g .pair)) (signAt sign) (r .xs) (r .ys) (q .xs) (q .ys) (r .shortest)
@@ -116,7 +116,7 @@ module _ (o k : ℕ) (ws : List ℕ) (set x y sign : ℕ) (d l : List ℕ) where
         (r .xs, r .ys, strict-shows o k (Links (chosen set ws)) x y (signAt sign) (r .xs) (r .ys) (good-kind (g .pair)) (r .shortest .path))
 
     -- Past clause 7 there is a shortest reason, and its places are those of the reason computed.
-    has : (P : ℕ → Type 0) {D : Type 0} → D ↔ P (length (reasonOf (chosen set ws) x y sign (o + k)))
+    pub has : (P : ℕ → Type 0) {D : Type 0} → D ↔ P (length (reasonOf (chosen set ws) x y sign (o + k)))
         → ((eqb (getD (distances (o + k) (signAt sign) (chosen set ws) y) x never) never ≡ false) × D) ↔ ((size : ℕ) × ReasonOf o k (chosen set ws) x y sign size × P size)
     has P {D} f = (there, back)
       where

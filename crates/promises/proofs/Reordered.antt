@@ -75,7 +75,7 @@ module _ (o k : ℕ) (ws vs : List ℕ) (n : Net o k ws) (p : Net o k vs) (to : 
 
   module _ (y : ℕ) (kind : Kind o k y) (s : Sign) where
     -- The scratch is the same: each place has one right value.
-    distances-same : distances (o + k) s ws y ≡ distances (o + k) s vs y
+    pub distances-same : distances (o + k) s ws y ≡ distances (o + k) s vs y
     distances-same =
         ext-getD never (distances (o + k) s ws y) (distances (o + k) s vs y) (distances-length (o + k) s ws y ∙ sym (distances-length (o + k) s vs y))
         (λ v h. distance-unique (Moves (o + k) (Links vs) s) (goal (o + k) s y) v _ _
@@ -84,7 +84,7 @@ module _ (o k : ℕ) (ws vs : List ℕ) (n : Net o k ws) (p : Net o k vs) (to : 
         (distances-right o k vs p y kind s v (omega (arith, distances-length (o + k) s ws y))))
 
     -- So are the states of a reason: there is one best route.
-    states-same : (x : ℕ) → x < o + k → getD (distances (o + k) s ws y) x never < never → reasonStates (o + k) s ws x y ≡ reasonStates (o + k) s vs x y
+    pub states-same : (x : ℕ) → x < o + k → getD (distances (o + k) s ws y) x never < never → reasonStates (o + k) s ws x y ≡ reasonStates (o + k) s vs x y
     states-same x node h =
         best-unique (Moves (o + k) (Links vs) s) (goal (o + k) s y) x _ _
         (best-into (Moves (o + k) (Links ws) s) (Moves (o + k) (Links vs) s) (moves-into ws vs to (o + k) s) (moves-into vs ws from (o + k) s) (goal (o + k) s y) x _

@@ -1,17 +1,17 @@
 -- Demand 1, in plain terms: what the test of each clause of the number table says of the call.
 use Prim.Native.Nat.{ℕ, suc, _+_, _*_, _%_, _≤_, _<_}
-use mathlib.Core.Path.{_≡_, sym, _∙_}
-use mathlib.Core.Bool.{false, not}
+use mathlib.Core.Path.{_≡_, refl, sym, ap, _∙_}
+use mathlib.Core.Bool.{Bool, true, false, cond, not}
 use mathlib.Core.List.{List}
-use mathlib.Core.Logic.{_⊎_, _↔_, ⊎-elim}
+use mathlib.Core.Logic.{_⊎_, inl, inr, _↔_, ⊎-elim}
 use native.Mathlib.Omega.{arith}
 use native.Mathlib.Decide.{decLt}
 use native.Mathlib.Nat.{le-refl}
 use lib.Dec.{eqb, ltb, leb}
 use lib.ListN.{length, getD}
-use borrow.Author.Tests.{ltb-false, le-ltb, leb-false, lt-leb, eqb-false, ne-eqb, not-false}
+use borrow.Author.Tests.{ltb-true, ltb-false, lt-ltb, le-ltb, leb-false, lt-leb, eqb-false, ne-eqb, not-false}
 use Rattle.theory_laws.proofs.Booleans.{contradiction}
-use Rattle.theory.specs.Words.{Sign, nodeLimit, wordLimit}
+use Rattle.theory.specs.Words.{Sign, word, nodeLimit, wordLimit}
 use Rattle.theory.specs.Origins.{originLimit, setLimit, chosen}
 use Rattle.theory.proofs.origins.Statements.{chosen-net}
 use Rattle.theory.specs.Nets.{Kind, Links, Net}
@@ -19,6 +19,7 @@ use Rattle.theory.specs.Support.{Supported}
 use Rattle.theory.specs.Scans.{rounds, Count}
 use Rattle.theory.specs.Reasons.{never}
 use Rattle.theory.specs.Searches.{distances}
+use Rattle.theory.specs.ProofFiles.{depthLimit, Proves}
 use Rattle.theory.specs.declared.Command.{Command}
 use Rattle.theory_laws.specs.Deciding.{Decides}
 use Rattle.theory_laws.proofs.Deciding.{decides-below, decides-equal, decides-either, decides-not, decides-same}
@@ -37,6 +38,12 @@ use Rattle.net.proofs.Good.{good-pair, good-statement}
 use Rattle.clash.specs.Table.{clashSearch, nowhere}
 use Rattle.questions.specs.Pairs.{pairsIn, pairLimit}
 use Rattle.questions.specs.Table.{badPairs}
+use Rattle.proof_form.specs.Checker.{checkProof}
+use Rattle.proof_form.specs.Ours.{ourDepth}
+use Rattle.proof_form.specs.declared.Found.{Found}
+use Rattle.proof_form.specs.declared.Found.the-variants.{Right, At, Nowhere}
+use Rattle.proof_form.proofs.Accepted.{accepted-exactly}
+use Rattle.proof_check.specs.Table.{isRight}
 use Rattle.satisfies.specs.Table.{badTable}
 use Rattle.satisfies.proofs.Exactly.{bad-table-exactly}
 use Rattle.promises.specs.Engines.{Read}
@@ -187,6 +194,34 @@ module _ (o k : ℕ) (ws : List ℕ) (net : Net o k ws) where
   -- Clause 7 of the clash test: no node clashes.
   pub clause-7-clash : Decides (nowhere (clashSearch o k ws)) ((x y : ℕ) → ClashAt o k ws x y → ⊥)
   clause-7-clash = no-clash-exactly o k ws net
+
+  -- Clause 12 of a proof check: the list does not prove the statement.
+  module _ (x y : ℕ) (kind : Kind o k y) (s : Sign) (l : List ℕ) where
+    pub proves-exactly : (not (isRight (checkProof o (o + k) ws (word x y s) l)) ≡ false) ↔ Proves o k ws x y s l
+    proves-exactly = ((λ e. accepted-exactly o k ws net x y s kind l .0 (right (checkProof o (o + k) ws (word x y s) l) e)), λ p. ap (λ (z : Found). not (isRight z)) (accepted-exactly o k ws net x y s kind l .1 p))
+      where
+        right : (z : Found) → not (isRight z) ≡ false → z ≡ Right
+        right Right e = refl
+        right (At i) e = contradiction (sym e)
+        right Nowhere e = contradiction (sym e)
+
+    pub clause-12 : Decides (not (isRight (checkProof o (o + k) ws (word x y s) l))) (Proves o k ws x y s l → ⊥)
+    clause-12 = decides-not _ proves-exactly
+
+-- Clause 11 of a proof, whose reason has so many links and, as it is written, so many places: more than 258 of an object, or more than 256 of a kind.
+pub clause-11 : (o x links places : ℕ) → places ≡ 3 + links → Decides (ltb depthLimit (ourDepth o x links)) (((x < o) × (258 < places)) ⊎ ((o ≤ x) × (256 < places)))
+unfolding ourDepth
+clause-11 o x links places long = at (ltb x o) refl
+  where
+    at : (q : Bool) → ltb x o ≡ q → Decides (ltb depthLimit (cond q links (links + 2))) (((x < o) × (258 < places)) ⊎ ((o ≤ x) × (256 < places)))
+    at true h = (
+      (λ e. let g = ltb-true depthLimit links e in inl (ltb-true x o h, omega (arith, g, long))),
+      ⊎-elim (λ p. let g = p .1 in lt-ltb depthLimit links (omega (arith, g, long))) (λ p. let a = p .0 in let b = ltb-true x o h in absurd (omega (arith, a, b))),
+    )
+    at false h = (
+      (λ e. let g = ltb-true depthLimit (links + 2) e in inr (ltb-false x o h, omega (arith, g, long))),
+      ⊎-elim (λ p. let a = p .0 in let b = ltb-false x o h in absurd (omega (arith, a, b))) (λ p. let g = p .1 in lt-ltb depthLimit (links + 2) (omega (arith, g, long))),
+    )
 
 -- Clause 8: the list is shorter than the result.
 pub clause-8 : (l all : List ℕ) → Decides (ltb (length l) (length all)) (length l < length all)

@@ -26,6 +26,10 @@ use Rattle.reason.specs.Table.{ReasonOutcome, reasonOutcome, reasoned}
 use Rattle.reason.specs.declared.Reasoned.{Reasoned}
 use Rattle.reason_check.specs.Table.{verdict}
 use Rattle.reason_check.specs.declared.Verdict.{Verdict}
+use Rattle.proof.specs.Table.{ProofOutcome, proofOutcome, proved}
+use Rattle.proof.specs.declared.Proved.{Proved}
+use Rattle.proof_check.specs.Table.{judged}
+use Rattle.proof_check.specs.declared.Judged.{Judged}
 use Rattle.valuation.specs.Table.{ValuationOutcome, valuationOutcome, filledBy}
 use Rattle.valuation.specs.declared.Filled.{Filled}
 use Rattle.satisfies.specs.Table.{testedBy}
@@ -94,6 +98,17 @@ module _ (o k : ℕ) (ws : List ℕ) (set : ℕ) where
   -- The reason check, which is lent nothing to write to.
   pub check-unique : (x y sign : ℕ) (list : List ℕ) (r q : Verdict) → r ≡ verdict o k ws set x y sign list → q ≡ verdict o k ws set x y sign list → r ≡ q
   check-unique x y sign list r q e f = both-are r q e f
+
+  -- The proof: m and l the scratches, c and d the lists left.
+  pub proof-unique : (x y sign : ℕ) (scratch list : List ℕ) (r q : Proved) (m l c d : List ℕ)
+      → proofOutcome r m c ≡ proved o k ws set x y sign scratch list → proofOutcome q l d ≡ proved o k ws set x y sign scratch list → (r ≡ q) × (m ≡ l) × (c ≡ d)
+  proof-unique x y sign scratch list r q m l c d e f =
+      let p = both-are (proofOutcome r m c) (proofOutcome q l d) e f in
+      (ap (λ (s : ProofOutcome). s .answer) p, ap (λ (s : ProofOutcome). s .scratch) p, ap (λ (s : ProofOutcome). s .list) p)
+
+  -- The proof check, which is lent nothing to write to.
+  pub proof-check-unique : (x y sign : ℕ) (list : List ℕ) (r q : Judged) → r ≡ judged o k ws set x y sign list → q ≡ judged o k ws set x y sign list → r ≡ q
+  proof-check-unique x y sign list r q e f = both-are r q e f
 
   -- The valuation: m and l the tables, c and d the marks left.
   pub valuation-unique : (table marks : List ℕ) (r q : Filled) (m l c d : List ℕ)

@@ -19,13 +19,15 @@ use Rattle.compact.specs.Table.{compactionTable, compactionDone}
 use Rattle.mend.specs.Table.{mendingTable, mendingDone}
 use Rattle.reason.specs.Table.{reasonTable, reasonDone}
 use Rattle.reason_check.specs.Table.{checkTable, checkDone}
+use Rattle.proof.specs.Table.{proofTable, proofDone}
+use Rattle.proof_check.specs.Table.{judgedTable, judgedDone}
 use Rattle.valuation.specs.Values.{ownValues}
 use Rattle.valuation.specs.Table.{valuationTable, valuationDone}
 use Rattle.satisfies.specs.Table.{satisfiesTable, satisfiesDone}
 use Rattle.rows_completion.specs.Table.{rowsTable, rowsDone}
 use Rattle.rows_answer.specs.Table.{answerInRows, answerTable}
 use Rattle.rows_answer.specs.declared.Answered.the-variants as answered
-use Rattle.promises.specs.Numbers.{wordNumber, checkedNumber, scanNumber, questionNumber, clashNumber, completionNumber, reasonNumber, verdictNumber, questionsNumber, compactionNumber, mendingNumber, valuationNumber, satisfiesNumber, rowsNumber, answerInRowsNumber}
+use Rattle.promises.specs.Numbers.{wordNumber, checkedNumber, scanNumber, questionNumber, clashNumber, completionNumber, reasonNumber, verdictNumber, questionsNumber, compactionNumber, mendingNumber, valuationNumber, satisfiesNumber, rowsNumber, answerInRowsNumber, proofNumber, proofCheckNumber}
 use Rattle.promises.specs.Engines.{Engine}
 
 pub record Demand1 (e : Engine) : Type 0 where
@@ -55,3 +57,7 @@ pub record Demand1 (e : Engine) : Type 0 where
       → Obeys rowsNumber (rowsTable o k ws set yeses noes l) (rowsDone o k (chosen set ws) yeses noes l (o + k)) (e .completionByRows o k ws set yeses noes l)
   pub answerInRows : (o k : ℕ) (yeses noes : List ℕ) (x y : ℕ)
       → Obeys answerInRowsNumber (answerTable o k yeses noes x y) (answered.Done (answerInRows (o + k) yeses noes x y)) (e .answerInRows o k yeses noes x y)
+  pub proof : (o k : ℕ) (ws : List ℕ) (set x y sign : ℕ) (d l : List ℕ)
+      → Obeys proofNumber (proofTable o k ws set x y sign d l) (proofDone o (chosen set ws) x y sign d l (o + k)) (e .proof o k ws set x y sign d l)
+  pub proofCheck : (o k : ℕ) (ws : List ℕ) (set x y sign : ℕ) (l : List ℕ)
+      → Obeys proofCheckNumber (judgedTable o k ws set x y sign l) judgedDone (e .proofCheck o k ws set x y sign l)

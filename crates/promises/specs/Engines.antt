@@ -24,6 +24,9 @@ use Rattle.mend.specs.Table.{MendingOutcome, mendedBy}
 use Rattle.reason.specs.Table.{ReasonOutcome, reasoned}
 use Rattle.reason_check.specs.Table.{verdict}
 use Rattle.reason_check.specs.declared.Verdict.{Verdict}
+use Rattle.proof.specs.Table.{ProofOutcome, proved}
+use Rattle.proof_check.specs.Table.{judged}
+use Rattle.proof_check.specs.declared.Judged.{Judged}
 use Rattle.valuation.specs.Table.{ValuationOutcome, filledBy}
 use Rattle.satisfies.specs.Table.{testedBy}
 use Rattle.satisfies.specs.declared.Tested.{Tested}
@@ -50,6 +53,8 @@ pub record Engine : Type 0 where
   pub satisfies : ℕ → ℕ → List ℕ → ℕ → ℕ → ℕ → Tested
   pub completionByRows : ℕ → ℕ → List ℕ → ℕ → List ℕ → List ℕ → List ℕ → RowsOutcome
   pub answerInRows : ℕ → ℕ → List ℕ → List ℕ → ℕ → ℕ → Answered
+  pub proof : ℕ → ℕ → List ℕ → ℕ → ℕ → ℕ → ℕ → List ℕ → List ℕ → ProofOutcome
+  pub proofCheck : ℕ → ℕ → List ℕ → ℕ → ℕ → ℕ → ℕ → List ℕ → Judged
 
 -- A net whose words have origins, and a set of origins to read it with.
 pub record Read (o k : ℕ) (ws : List ℕ) (set : ℕ) : Type 0 where
@@ -79,6 +84,8 @@ ours = record {
   satisfies = testedBy;
   completionByRows = completedByRows;
   answerInRows = answeredInRows;
+  proof = proved;
+  proofCheck = judged;
 }
 
 -- What a scan leaves, done or spent, with the bytes `past` behind its marks.
@@ -113,6 +120,8 @@ withScan f = record {
   satisfies = ours .satisfies;
   completionByRows = ours .completionByRows;
   answerInRows = ours .answerInRows;
+  proof = ours .proof;
+  proofCheck = ours .proofCheck;
 }
 
 abbrev pub withQuestion : (ℕ → ℕ → List ℕ → ℕ → ℕ → ℕ → List ℕ → QuestionOutcome) → Engine
@@ -132,6 +141,8 @@ withQuestion f = record {
   satisfies = ours .satisfies;
   completionByRows = ours .completionByRows;
   answerInRows = ours .answerInRows;
+  proof = ours .proof;
+  proofCheck = ours .proofCheck;
 }
 
 abbrev pub withCompletion : (ℕ → ℕ → List ℕ → ℕ → List ℕ → List ℕ → CompletionOutcome) → Engine
@@ -151,4 +162,6 @@ withCompletion f = record {
   satisfies = ours .satisfies;
   completionByRows = ours .completionByRows;
   answerInRows = ours .answerInRows;
+  proof = ours .proof;
+  proofCheck = ours .proofCheck;
 }

@@ -9,6 +9,7 @@ pub mod Reasoning
 pub mod AskingAll
 pub mod Valuing
 pub mod ByRows
+pub mod Proving
 pub mod Demand3
 pub mod FromKind
 pub mod Compacting

@@ -14,6 +14,9 @@ use Rattle.mend.specs.Table.{MendingOutcome, mendedReply}
 use Rattle.reason.specs.Table.{ReasonOutcome, reasonedReply}
 use Rattle.reason_check.specs.Table.{verdictReply}
 use Rattle.reason_check.specs.declared.Verdict.{Verdict}
+use Rattle.proof.specs.Table.{ProofOutcome, provedReply}
+use Rattle.proof_check.specs.Table.{judgedReply}
+use Rattle.proof_check.specs.declared.Judged.{Judged}
 use Rattle.valuation.specs.Table.{ValuationOutcome, filledReply}
 use Rattle.satisfies.specs.Table.{testedReply}
 use Rattle.satisfies.specs.declared.Tested.{Tested}
@@ -67,6 +70,12 @@ rowsNumber r = completedReply (r .answer) .number
 
 abbrev pub answerInRowsNumber : Answered → ℕ
 answerInRowsNumber r = answeredReply r .number
+
+abbrev pub proofNumber : ProofOutcome → ℕ
+proofNumber r = provedReply (r .answer) .number
+
+abbrev pub proofCheckNumber : Judged → ℕ
+proofCheckNumber r = judgedReply r .number
 
 abbrev pub fileNumber : FileOutcome → ℕ
 fileNumber r = contentsReply (r .contents) .number

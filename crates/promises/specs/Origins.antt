@@ -20,6 +20,8 @@ pub record SameOperations (e : Engine) (o k : ℕ) (ws : List ℕ) (set : ℕ) (
   pub questions : (ps bs m : List ℕ) → e .questions o k ws set ps bs m ≡ e .questions o k vs set′ ps bs m
   pub valuation : (t m : List ℕ) → e .valuation o k ws set t m ≡ e .valuation o k vs set′ t m
   pub completionByRows : (yeses noes l : List ℕ) → e .completionByRows o k ws set yeses noes l ≡ e .completionByRows o k vs set′ yeses noes l
+  pub proof : (x y sign : ℕ) (d l : List ℕ) → e .proof o k ws set x y sign d l ≡ e .proof o k vs set′ x y sign d l
+  pub proofCheck : (x y sign : ℕ) (l : List ℕ) → e .proofCheck o k ws set x y sign l ≡ e .proofCheck o k vs set′ x y sign l
 
 pub record FromOrigins (e : Engine) : Type 0 where
   -- Each operation is the one on the chosen words, their origins removed, read with any set that has 0.

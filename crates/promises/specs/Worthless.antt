@@ -29,6 +29,9 @@ use Rattle.mend.specs.declared.MendedNet.the-variants as mendedNet
 use Rattle.reason.specs.Table.{reasonOutcome}
 use Rattle.reason.specs.declared.Reasoned.the-variants as reasonedAs
 use Rattle.reason_check.specs.declared.Verdict.the-variants as verdictAs
+use Rattle.proof.specs.Table.{proofOutcome}
+use Rattle.proof.specs.declared.Proved.the-variants as provedAs
+use Rattle.proof_check.specs.declared.Judged.the-variants as judgedAs
 use Rattle.valuation.specs.Table.{valuationOutcome}
 use Rattle.valuation.specs.declared.Filled.the-variants as filled
 use Rattle.satisfies.specs.declared.Tested.the-variants as tested
@@ -56,6 +59,8 @@ refuser r = record {
   satisfies = λ o k t x y sign. tested.Refused r;
   completionByRows = λ o k ws set yeses noes l. rowsOutcome (completed.Refused r) yeses noes l;
   answerInRows = λ o k yeses noes x y. answered.Refused r;
+  proof = λ o k ws set x y sign d l. proofOutcome (provedAs.Refused r) d l;
+  proofCheck = λ o k ws set x y sign l. judgedAs.Refused r;
 }
 
 -- An answer turned into none.
@@ -125,4 +130,6 @@ hasty = record {
   satisfies = ours .satisfies;
   completionByRows = ours .completionByRows;
   answerInRows = ours .answerInRows;
+  proof = ours .proof;
+  proofCheck = ours .proofCheck;
 }

@@ -6,6 +6,7 @@ use readings_cases::buffers::lend_links;
 use readings_cases::buffers::lend_list;
 use readings_cases::buffers::lend_mended;
 use readings_cases::buffers::lend_pairs;
+use readings_cases::buffers::lend_proof;
 use readings_cases::buffers::lend_rows;
 use readings_cases::buffers::lend_scratch;
 use readings_cases::buffers::lend_table;
@@ -14,6 +15,7 @@ use readings_cases::buffers::take_answers;
 use readings_cases::buffers::take_links;
 use readings_cases::buffers::take_list;
 use readings_cases::buffers::take_mended;
+use readings_cases::buffers::take_proof;
 use readings_cases::buffers::take_rows;
 use readings_cases::buffers::take_scratch;
 use readings_cases::buffers::take_table;
@@ -449,6 +451,49 @@ fn with_reason(engine: Engine, n: Numbers, words: &[u32], size: usize, buffers: 
     on_reason(engine, n, words, halves_before(&list, size))
 }
 
+// The proof, with the first places of scratch and list.
+fn on_proof(
+    engine: Engine,
+    n: Numbers,
+    words: &[u32],
+    first: usize,
+    second: usize,
+    scratch: &mut [u16],
+    list: &mut [u32],
+) -> Reply {
+    let a = least(first, scratch.len());
+    let b = least(second, list.len());
+    match engine {
+        Engine::Proved => proved::on_proof(n, words, &mut scratch[..a], &mut list[..b]),
+        Engine::Second => other::on_proof(n, words, &mut scratch[..a], &mut list[..b]),
+    }
+}
+
+// The same, with the two buffers.
+fn with_proof(
+    engine: Engine,
+    n: Numbers,
+    words: &[u32],
+    first: usize,
+    second: usize,
+    buffers: &mut [u32],
+) -> Reply {
+    let mut scratch = [0u16; 4096];
+    let mut list = [0u32; 16384];
+    lend_proof(first, second, buffers, &mut scratch, &mut list);
+    let reply = on_proof(engine, n, words, first, second, &mut scratch, &mut list);
+    take_proof(first, second, &scratch, &list, buffers);
+    reply
+}
+
+// The check of a proof.
+fn on_proof_check(engine: Engine, n: Numbers, words: &[u32], list: &[u32]) -> Reply {
+    match engine {
+        Engine::Proved => proved::on_proof_check(n, words, list),
+        Engine::Second => other::on_proof_check(n, words, list),
+    }
+}
+
 // The contents of a file.
 fn on_file(engine: Engine, file: &[u8]) -> Reply {
     match engine {
@@ -507,6 +552,10 @@ pub fn run(
         Operation::Satisfies => with_statement(engine, n, first, buffers),
         Operation::Reason => with_scratch(engine, n, words, first, second, buffers),
         Operation::ReasonCheck => with_reason(engine, n, words, first, buffers),
+        Operation::Proof => with_proof(engine, n, words, first, second, buffers),
+        Operation::ProofCheck => {
+            on_proof_check(engine, n, words, numbers_from(buffers, 0, first))
+        }
         Operation::File => with_file(engine, first, buffers),
         Operation::Ask => with_text(engine, first, buffers),
         _ => with_marks(engine, operation, n, words, first, buffers),

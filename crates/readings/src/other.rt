@@ -99,6 +99,16 @@ pub fn on_reason(n: Numbers, words: &[u32], list: &[u16]) -> Reply {
     second::reason_check(n.o, n.k, words, n.set, n.x, n.y, n.sign, list)
 }
 
+// The proof.
+pub fn on_proof(n: Numbers, words: &[u32], scratch: &mut [u16], list: &mut [u32]) -> Reply {
+    second::proof(n.o, n.k, words, n.set, n.x, n.y, n.sign, scratch, list)
+}
+
+// The check of a proof.
+pub fn on_proof_check(n: Numbers, words: &[u32], list: &[u32]) -> Reply {
+    second::proof_check(n.o, n.k, words, n.set, n.x, n.y, n.sign, list)
+}
+
 // The contents of a file.
 pub fn on_file(file: &[u8]) -> Reply {
     second::read_file(file)

@@ -16,6 +16,8 @@ use strumelka::strumelka_compact;
 use strumelka::strumelka_completion;
 use strumelka::strumelka_completion_by_rows;
 use strumelka::strumelka_mend;
+use strumelka::strumelka_proof;
+use strumelka::strumelka_proof_check;
 use strumelka::strumelka_question;
 use strumelka::strumelka_questions;
 use strumelka::strumelka_reason;
@@ -124,6 +126,16 @@ pub fn on_scratch(n: Numbers, words: &[u32], scratch: &mut [u16], list: &mut [u1
 // The check of a reason.
 pub fn on_reason(n: Numbers, words: &[u32], list: &[u16]) -> Reply {
     reply_given(strumelka_reason_check(n.o, n.k, words, n.set, n.x, n.y, n.sign, list))
+}
+
+// The proof.
+pub fn on_proof(n: Numbers, words: &[u32], scratch: &mut [u16], list: &mut [u32]) -> Reply {
+    reply_given(strumelka_proof(n.o, n.k, words, n.set, n.x, n.y, n.sign, scratch, list))
+}
+
+// The check of a proof.
+pub fn on_proof_check(n: Numbers, words: &[u32], list: &[u32]) -> Reply {
+    reply_given(strumelka_proof_check(n.o, n.k, words, n.set, n.x, n.y, n.sign, list))
 }
 
 // The contents of a file.

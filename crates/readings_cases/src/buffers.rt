@@ -36,6 +36,7 @@ fn writes_first(operation: Operation) -> bool {
         Operation::AnswerInRows => false,
         Operation::Satisfies => false,
         Operation::ReasonCheck => false,
+        Operation::ProofCheck => false,
         Operation::File => false,
         Operation::Ask => false,
         _ => true,
@@ -52,6 +53,7 @@ fn writes_second(operation: Operation) -> bool {
         Operation::Mend => true,
         Operation::Valuation => true,
         Operation::Reason => true,
+        Operation::Proof => true,
         Operation::Ask => true,
         _ => false,
     }
@@ -266,6 +268,24 @@ pub fn take_scratch(
 ) {
     from_halves(halves_before(scratch, first), buffers, 0);
     from_halves(halves_before(list, second), buffers, SECOND_BUFFER);
+}
+
+// A scratch and the list of a proof, as they are in the two buffers.
+pub fn lend_proof(
+    first: usize,
+    second: usize,
+    buffers: &[u32],
+    scratch: &mut [u16],
+    list: &mut [u32],
+) {
+    to_halves(numbers_from(buffers, 0, first), scratch);
+    copy(numbers_from(buffers, SECOND_BUFFER, second), list, 0);
+}
+
+// Takes scratch and list back into the two buffers.
+pub fn take_proof(first: usize, second: usize, scratch: &[u16], list: &[u32], buffers: &mut [u32]) {
+    from_halves(halves_before(scratch, first), buffers, 0);
+    copy(numbers_from(list, 0, second), buffers, SECOND_BUFFER);
 }
 
 // A file and the text for it, as they are in the two buffers.

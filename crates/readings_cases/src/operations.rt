@@ -33,6 +33,8 @@ pub enum Operation {
     Satisfies,
     Reason,
     ReasonCheck,
+    Proof,
+    ProofCheck,
     File,
     Ask,
     Unknown,
@@ -103,7 +105,7 @@ pub fn operation_of(name: &[u8]) -> Operation {
     row_operation_of(name)
 }
 
-// The operation of a name, among those about rows, valuations, reasons and files.
+// The operation of a name, among those about rows, valuations, reasons, proofs and files.
 fn row_operation_of(name: &[u8]) -> Operation {
     if same_bytes(name, b"completion_by_rows") {
         return Operation::CompletionByRows;
@@ -114,13 +116,24 @@ fn row_operation_of(name: &[u8]) -> Operation {
     model_operation_of(name)
 }
 
-// The operation of a name, among those about valuations, reasons and files.
+// The operation of a name, among those about valuations, reasons, proofs and files.
 fn model_operation_of(name: &[u8]) -> Operation {
     if same_bytes(name, b"valuation") {
         return Operation::Valuation;
     }
     if same_bytes(name, b"satisfies") {
         return Operation::Satisfies;
+    }
+    proof_operation_of(name)
+}
+
+// The operation of a name, among those about proofs, reasons and files.
+fn proof_operation_of(name: &[u8]) -> Operation {
+    if same_bytes(name, b"proof") {
+        return Operation::Proof;
+    }
+    if same_bytes(name, b"proof_check") {
+        return Operation::ProofCheck;
     }
     file_operation_of(name)
 }
@@ -142,7 +155,7 @@ fn file_operation_of(name: &[u8]) -> Operation {
     Operation::Unknown
 }
 
-// The letter of an operation's field, 0 after its last: n a number, b a byte, w words, m marks, c words that are written, s scratch,
+// The letter of an operation's field, 0 after its last: n a number, b a byte, w words, m marks, c words that are written or a proof, s scratch,
 // r a reason, f a file, p pairs, a their answers, t a valuation's table, d rows of bits.
 fn letter_at(operation: Operation, at: usize) -> u8 {
     match operation {
@@ -161,6 +174,8 @@ fn letter_at(operation: Operation, at: usize) -> u8 {
         Operation::Satisfies => byte_at(b"nntnnn", at),
         Operation::Reason => byte_at(b"nnwnnnnsr", at),
         Operation::ReasonCheck => byte_at(b"nnwnnnnr", at),
+        Operation::Proof => byte_at(b"nnwnnnnsc", at),
+        Operation::ProofCheck => byte_at(b"nnwnnnnc", at),
         Operation::File => byte_at(b"f", at),
         Operation::Ask => byte_at(b"fb", at),
         Operation::Unknown => 0,

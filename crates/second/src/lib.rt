@@ -13,6 +13,8 @@ mod models; // models.rt: valuations
 mod rows; // rows.rt: bit rows
 mod search; // search.rt: the shortest reason
 mod path; // path.rt: whether a list is a path
+mod proving; // proving.rt: our proof of a statement
+mod sequents; // sequents.rt: whether a list is a proof
 mod file; // file.rt: the net file
 mod text; // text.rt: the lines of `ask`
 
@@ -58,6 +60,10 @@ use places::front;
 use places::narrow;
 use places::node;
 use places::wide;
+use proving::depth_of;
+use proving::shape_of;
+use proving::size_of;
+use proving::write_proof;
 pub use reply::Reply;
 use reply::given;
 use reply::refused;
@@ -70,6 +76,8 @@ use rows::pack_rows;
 use rows::row_size;
 use search::fill_distances;
 use search::write_reason;
+use sequents::statement;
+use sequents::verdict;
 use text::file_line;
 use text::net_line;
 use text::question_lines;
@@ -384,6 +392,62 @@ pub fn reason_check(
         return given(0, 1, 0);
     }
     given(0, 0, 0)
+}
+
+// Our proof of the statement (x, y, sign), by way of its shortest reason.
+pub fn proof(
+    o: u32,
+    k: u32,
+    words: &[u32],
+    set: u32,
+    x: u32,
+    y: u32,
+    sign: u32,
+    scratch: &mut [u16],
+    list: &mut [u32],
+) -> Reply {
+    let checked = statement_check(o, k, words, set, x, y, sign);
+    if checked.number != 0 {
+        return checked;
+    }
+    let n = node_count(o, k);
+    if scratch.len() < 2 * n {
+        return refused(5);
+    }
+    fill_distances(n, words, set, node(y), sign, scratch);
+    let links = entry_at(scratch, node(x));
+    if links == 65535 {
+        return refused(7);
+    }
+    let shape = shape_of(o, x, links);
+    if depth_of(shape) > 255 {
+        return refused(11);
+    }
+    let needed = size_of(shape);
+    if list.len() < needed {
+        return given(8, narrow(needed), 0);
+    }
+    write_proof(n, words, set, x, y, sign, shape, links, scratch, list);
+    given(0, narrow(needed), 0)
+}
+
+// Whether `list` proves the statement (x, y, sign); else the first step at fault.
+pub fn proof_check(
+    o: u32,
+    k: u32,
+    words: &[u32],
+    set: u32,
+    x: u32,
+    y: u32,
+    sign: u32,
+    list: &[u32],
+) -> Reply {
+    let checked = statement_check(o, k, words, set, x, y, sign);
+    if checked.number != 0 {
+        return checked;
+    }
+    let n = narrow(node_count(o, k));
+    verdict(o, n, words, set, statement(x, y, sign), list)
 }
 
 // The numbers of the net of a well-formed file: without a set its words are plain ones.

@@ -25,7 +25,7 @@ fn says(set: u32, own: u32, word: u32) -> bool {
 }
 
 // Whether a chosen word of the net says what the plain word says.
-fn has(words: &[u32], set: u32, word: u32) -> bool {
+pub fn has(words: &[u32], set: u32, word: u32) -> bool {
     let mut i = 0;
     while i < words.len() {
         if says(set, words[i], word) {

@@ -139,7 +139,7 @@ fn better_by(n: usize, set: u32, word: u32, state: usize, best: usize, scratch: 
 }
 
 // The smallest state that follows on a shortest way: the first part comes before the second, and then the smaller node.
-fn next_state(n: usize, words: &[u32], set: u32, state: usize, scratch: &[u16]) -> usize {
+pub fn next_state(n: usize, words: &[u32], set: u32, state: usize, scratch: &[u16]) -> usize {
     let mut best: usize = 4096;
     let mut i = 0;
     while i < words.len() {
@@ -150,7 +150,7 @@ fn next_state(n: usize, words: &[u32], set: u32, state: usize, scratch: &[u16]) 
 }
 
 // The node of a state.
-fn node_of(n: usize, state: usize) -> u16 {
+pub fn node_of(n: usize, state: usize) -> u16 {
     if state < n {
         return (state % 1024) as u16;
     }

@@ -13,6 +13,8 @@ use Rattle.compact.specs.Table.{compactedBy, compactedReply}
 use Rattle.mend.specs.Table.{mendedBy, mendedReply}
 use Rattle.reason.specs.Table.{reasoned, reasonedReply}
 use Rattle.reason_check.specs.Table.{verdict, verdictReply}
+use Rattle.proof.specs.Table.{proved, provedReply}
+use Rattle.proof_check.specs.Table.{judged, judgedReply}
 use Rattle.valuation.specs.Table.{filledBy, filledReply}
 use Rattle.satisfies.specs.Table.{testedBy, testedReply}
 use Rattle.rows_completion.specs.Table.{completedByRows}
@@ -55,6 +57,10 @@ module _ (o k : ℕ) (ws : List ℕ) (set : ℕ) (r q : Reply) where
   pub given-reason-check-unique : (x y sign : ℕ) (list : List ℕ) → r ≡ verdictReply (verdict o k ws set x y sign list) → q ≡ verdictReply (verdict o k ws set x y sign list) → r ≡ q
   given-reason-check-unique x y sign list = gives-one r q
 
+  -- `strumelka_proof_check`.
+  pub given-proof-check-unique : (x y sign : ℕ) (list : List ℕ) → r ≡ judgedReply (judged o k ws set x y sign list) → q ≡ judgedReply (judged o k ws set x y sign list) → r ≡ q
+  given-proof-check-unique x y sign list = gives-one r q
+
   module _ (marks m l : List ℕ) where
     -- `strumelka_scan`.
     pub given-scan-unique : (x budget : ℕ)
@@ -93,6 +99,13 @@ module _ (o k : ℕ) (ws : List ℕ) (set : ℕ) (r q : Reply) where
       → (q ≡ reasonedReply (reasoned o k ws set x y sign scratch list .answer)) × (l ≡ reasoned o k ws set x y sign scratch list .scratch) × (d ≡ reasoned o k ws set x y sign scratch list .list)
       → (r ≡ q) × (m ≡ l) × (c ≡ d)
   given-reason-unique x y sign scratch list m l c d = leaves-two r q m l c d
+
+  -- `strumelka_proof`: m and l the scratches, c and d the lists left.
+  pub given-proof-unique : (x y sign : ℕ) (scratch list m l c d : List ℕ)
+      → (r ≡ provedReply (proved o k ws set x y sign scratch list .answer)) × (m ≡ proved o k ws set x y sign scratch list .scratch) × (c ≡ proved o k ws set x y sign scratch list .list)
+      → (q ≡ provedReply (proved o k ws set x y sign scratch list .answer)) × (l ≡ proved o k ws set x y sign scratch list .scratch) × (d ≡ proved o k ws set x y sign scratch list .list)
+      → (r ≡ q) × (m ≡ l) × (c ≡ d)
+  given-proof-unique x y sign scratch list m l c d = leaves-two r q m l c d
 
   -- `strumelka_valuation`: m and l the tables, c and d the marks left.
   pub given-valuation-unique : (table marks m l c d : List ℕ)

@@ -11,6 +11,8 @@ ghost use Rattle.compact.specs.Table.{compactedBy, compactedReply};
 ghost use Rattle.mend.specs.Table.{mendedBy, mendedReply};
 ghost use Rattle.reason.specs.Table.{reasoned, reasonedReply};
 ghost use Rattle.reason_check.specs.Table.{verdict, verdictReply};
+ghost use Rattle.proof.specs.Table.{proved, provedReply};
+ghost use Rattle.proof_check.specs.Table.{judged, judgedReply};
 ghost use Rattle.valuation.specs.Table.{filledBy, filledReply};
 ghost use Rattle.satisfies.specs.Table.{testedBy, testedReply};
 ghost use Rattle.rows_completion.specs.Table.{completedByRows};
@@ -26,7 +28,9 @@ use library_answer::clashed_given;
 use library_answer::compacted_given;
 use library_answer::completed_given;
 use library_answer::filled_given;
+use library_answer::judged_given;
 use library_answer::mended_given;
+use library_answer::proved_given;
 use library_answer::reasoned_given;
 use library_answer::scanned_given;
 use library_answer::tested_given;
@@ -36,6 +40,8 @@ use library_reply::word_given;
 use mend::mend;
 use net::Reply;
 use net::check_net;
+use proof::write_proof;
+use proof_check::check_proof;
 use question::ask_question;
 use questions::ask_all;
 use reason::find_reason;
@@ -209,6 +215,43 @@ pub extern "C" fn strumelka_reason_check(
     ensures { λ r. ⌜ r ≡ verdictReply (verdict o k (now (words .entry)) set x y sign (now (list .entry))) ⌝ }
 {
     verdict_given(check_reason(o, k, words, set, x, y, sign, list))
+}
+
+// The proof of x → y (`sign` 0) or x ↛ y (`sign` 1), with room for distances and for the list.
+#[no_mangle]
+pub extern "C" fn strumelka_proof(
+    o: u32,
+    k: u32,
+    words: &[u32],
+    set: u32,
+    x: u32,
+    y: u32,
+    sign: u32,
+    scratch: &mut [u16],
+    list: &mut [u32],
+) -> Reply
+    ensures { λ r. ⌜ (r ≡ provedReply (proved o k (now (words .entry)) set x y sign (now (scratch .entry)) (now (list .entry)) .answer))
+        × (now (scratch .exit) ≡ proved o k (now (words .entry)) set x y sign (now (scratch .entry)) (now (list .entry)) .scratch)
+        × (now (list .exit) ≡ proved o k (now (words .entry)) set x y sign (now (scratch .entry)) (now (list .entry)) .list) ⌝ }
+{
+    proved_given(write_proof(o, k, words, set, x, y, sign, scratch, list))
+}
+
+// The check of a proof of x → y (`sign` 0) or x ↛ y (`sign` 1).
+#[no_mangle]
+pub extern "C" fn strumelka_proof_check(
+    o: u32,
+    k: u32,
+    words: &[u32],
+    set: u32,
+    x: u32,
+    y: u32,
+    sign: u32,
+    list: &[u32],
+) -> Reply
+    ensures { λ r. ⌜ r ≡ judgedReply (judged o k (now (words .entry)) set x y sign (now (list .entry))) ⌝ }
+{
+    judged_given(check_proof(o, k, words, set, x, y, sign, list))
 }
 
 // The valuation of a net, with room for the table and for marks.

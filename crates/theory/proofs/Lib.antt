@@ -9,4 +9,5 @@ pub mod rows
 pub mod reason
 pub mod origins
 pub mod valuation
+pub mod sequent
 pub mod Readings

@@ -19,4 +19,6 @@ pub mod Reasons
 pub mod Searches
 pub mod Checks
 pub mod Valuations
+pub mod Sequents
+pub mod ProofFiles
 pub mod NetM

@@ -36,14 +36,14 @@ trans (step l u) v = step l (trans u v)
 pub turn : {L : Statements} {x y : ℕ} → Apart L x y → Apart L y x
 turn n = record { left = n .right; right = n .left; first = n .second; cross = ⊎-swap (n .cross); second = n .first }
 
-before : {L : Statements} {x z y : ℕ} → Up L z x → Apart L z y → Apart L x y
+pub before : {L : Statements} {x z y : ℕ} → Up L z x → Apart L z y → Apart L x y
 before a n = record { left = n .left; right = n .right; first = trans a (n .first); cross = n .cross; second = n .second }
 
-behind : {L : Statements} {x z y : ℕ} → Up L z y → Apart L x z → Apart L x y
+pub behind : {L : Statements} {x z y : ℕ} → Up L z y → Apart L x z → Apart L x y
 behind a n = turn (before a (turn n))
 
 module _ (o k : ℕ) (L : Statements) (legal : Legal o k L) where
-  after-link : {y z : ℕ} → Kind o k z → (z ≡ y) ⊎ Kind o k y → Kind o k y
+  pub after-link : {y z : ℕ} → Kind o k z → (z ≡ y) ⊎ Kind o k y → Kind o k y
   after-link h (inl e) = subst (λ (w : ℕ). Kind o k w) e h
   after-link h (inr g) = g
 

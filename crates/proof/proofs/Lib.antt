@@ -1,0 +1,5 @@
+pub mod Ours
+pub mod Putting
+pub mod AfterReason
+pub mod Replies
+pub mod Readings

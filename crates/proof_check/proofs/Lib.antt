@@ -1,0 +1,4 @@
+pub mod Closing
+pub mod Replies
+pub mod Exactly
+pub mod Readings

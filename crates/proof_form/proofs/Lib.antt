@@ -1,0 +1,11 @@
+pub mod Tests
+pub mod Asking
+pub mod Reading
+pub mod Accepting
+pub mod Accepted
+pub mod Chains
+pub mod Building
+pub mod OursAccepted
+pub mod Readings
+pub mod FromReason
+pub mod Writing

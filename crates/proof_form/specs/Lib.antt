@@ -1,0 +1,3 @@
+pub mod Checker
+pub mod Ours
+pub mod FromReason
