@@ -2,19 +2,22 @@
 use Prim.Native.Nat.{ℕ, zero, suc, _+_, _≤_, _<_}
 use mathlib.Core.Path.{_≡_, refl, sym, ap, _∙_}
 use mathlib.Core.Bool.{Bool, true, false}
-use mathlib.Core.List.{List, _++_, append-nil}
+use mathlib.Core.List.{List, [], _∷_, _++_, append-nil}
 use native.Mathlib.Omega.{arith}
 use lib.ListN.{length, getD, set, drop, replicate}
 use lib.Seq.{drop-length}
-use Rattle.theory.specs.Words.{Sign, signAt}
+use Rattle.theory_laws.proofs.Booleans.{contradiction}
+use Rattle.theory.specs.Words.{signAt}
 use Rattle.theory.specs.Nets.{Kind, Net}
 use Rattle.theory.specs.Reasons.{goal, never}
 use Rattle.theory.specs.Searches.{arcs, level, levels, distances}
-use Rattle.theory.specs.Inside.{Ends}
-use Rattle.theory.specs.Origins.{plainOf, chooses, chosen, NetFrom, EndsFrom}
+use Rattle.theory.specs.Origins.{chosen, NetFrom, EndsFrom}
 use Rattle.theory.proofs.Inside.{at-member}
-use Rattle.theory.proofs.origins.Folds.{levelWord, chosen-level-go}
+use Rattle.theory.proofs.origins.Folds.{chosen-level-go}
 use Rattle.theory.proofs.reason.Searching.{levels-start, levels-go, search-stops, search-ends}
+use Rattle.reason_search.specs.Search.{Kept}
+use Rattle.reason_search.proofs.WordMoves.{word-moves}
+use Rattle.reason_search.proofs.Opening.{level-none, level-two}
 
 -- Word j of a net has an origin of at most 3, and the ends of the plain word are nodes.
 pub ends-at : (n : ℕ) (ws : List ℕ) → NetFrom 0 n ws → (j : ℕ) → j < length ws → EndsFrom n (getD ws j 0)
@@ -22,19 +25,21 @@ ends-at n ws net j h =
     let w = net .legal (getD ws j 0) (at-member ws j h) in
     record { origin = w .origin; ends = record { tail-in = omega (arith, w .plain .tail); head-in = omega (arith, w .plain .head .high) } }
 
-pub ends-of-plain : {n w v : ℕ} → EndsFrom n w → v ≡ plainOf w → Ends n v
-ends-of-plain e q = rw q (e .ends)
+-- A level over the chosen words has come to word j, and made of the places what the word does to them.
+pub level-more : (set n s : ℕ) (ws : List ℕ) (i j : ℕ) (d : List ℕ) {c b : List ℕ} → j < length ws → c ≡ level i (arcs n (signAt s) (chosen set (drop j ws))) d
+    → b ≡ level i (arcs n (signAt s) (chosen set (getD ws j 0 ∷ []))) d
+    → c ≡ level i (arcs n (signAt s) (chosen set (drop (j + 1) ws))) b
+level-more set n s ws i j d at rest e =
+    rest
+    ∙ chosen-level-go set n (signAt s) i ws j d at
+    ∙ ap (level i (arcs n (signAt s) (chosen set (drop (j + 1) ws)))) (sym (e ∙ word-moves (level i) (level-none i) (level-two i) set n s (getD ws j 0) d))
 
--- A level over the chosen words has come to word j, and the code told whether it is one of them.
-module _ (set n : ℕ) (s : Sign) (ws : List ℕ) (i j : ℕ) (d : List ℕ) {c : List ℕ} {q : Bool}
-    (at : j < length ws) (rest : c ≡ level i (arcs n s (chosen set (drop j ws))) d) (told : q ≡ chooses set (getD ws j 0)) where
-  -- It is: the level goes on from what the plain word's moves made of the places.
-  pub level-chosen : q ≡ true → {w : ℕ} {b : List ℕ} → w ≡ plainOf (getD ws j 0) → b ≡ levelWord n s i w d → c ≡ level i (arcs n s (chosen set (drop (j + 1) ws))) b
-  level-chosen t e f = rest ∙ chosen-level-go set n s i ws j d at ∙ rw (sym told ∙ t, f, e) refl
+-- The flag of the loop, p before a word that answers r, and q after it.
+pub flag-set : {q : Bool} {a c : List ℕ} → q ≡ true → Kept q a c
+flag-set t f = contradiction (sym f ∙ t)
 
-  -- It is not: the places stay.
-  pub level-passed : q ≡ false → c ≡ level i (arcs n s (chosen set (drop (j + 1) ws))) d
-  level-passed t = rest ∙ chosen-level-go set n s i ws j d at ∙ rw (sym told ∙ t) refl
+pub flag-kept : {p q r : Bool} {a b c : List ℕ} → r ≡ false → q ≡ p → Kept p a b → Kept r b c → Kept q a c
+flag-kept f e k l g = l f ∙ k (sym e ∙ g)
 
 -- Asked for an "is not", a path ends in the second part.
 pub goal-second : (n sign y : ℕ) → (sign ≡ 0 → ⊥) → n + y ≡ goal n (signAt sign) y

@@ -1,3 +1,4 @@
 pub mod WordArcs
+pub mod WordMoves
 pub mod Opening
 pub mod Levelling

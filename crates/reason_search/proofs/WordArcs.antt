@@ -1,8 +1,9 @@
 -- The moves of one word, by the tests that the code makes of the sign asked and of the word's own.
-use Prim.Native.Nat.{ℕ, zero, suc, _+_}
+use Prim.Native.Nat.{ℕ, zero, suc, _+_, _*_, _-_, _<_, _≤_}
 use mathlib.Core.Path.{_≡_, refl}
 use mathlib.Core.List.{List, [], _∷_}
 use native.Mathlib.Omega.{arith}
+use native.Mathlib.Nat.{zero-mul, one-mul}
 use Rattle.theory.specs.Words.{signAt, tailOf, headOf, parity}
 use Rattle.theory.specs.Searches.{Arc, arc, arcsOf}
 use Rattle.theory.proofs.origins.Folds.{arcsWord}
@@ -18,15 +19,26 @@ module _ (n t h : ℕ) where
   none-is zero (suc p) a b = refl
   none-is (suc s) p a b = absurd (omega arith)
 
-  both-is : (s p : ℕ) → (s ≡ 0 → ⊥) → p ≡ 0 → arcsOf n (signAt s) t h p [] ≡ arc t h ∷ arc (n + h) (n + t) ∷ []
-  both-is zero p a b = absurd (a refl)
-  both-is (suc s) zero a b = refl
-  both-is (suc s) (suc p) a b = absurd (omega arith)
+  both-are : (s p : ℕ) → (s ≡ 0 → ⊥) → p < 2 → arcsOf n (signAt s) t h p [] ≡ arc t (h + p * n) ∷ arc (n + h - p * n) (n + t) ∷ []
+  both-are zero p a b = absurd (a refl)
+  both-are (suc s) zero a b =
+      let e : h + 0 * n ≡ h = omega (arith, zero-mul n) in
+      let f : n + h - 0 * n ≡ n + h = omega (arith, zero-mul n) in
+      rw (e, f)
+  both-are (suc s) (suc zero) a b =
+      let e : h + 1 * n ≡ n + h = omega (arith, one-mul n) in
+      let f : n + h - 1 * n ≡ h = omega (arith, one-mul n) in
+      rw (e, f)
+  both-are (suc s) (suc (suc p)) a b = absurd (omega arith)
 
-  over-is : (s p : ℕ) → (s ≡ 0 → ⊥) → (p ≡ 0 → ⊥) → arcsOf n (signAt s) t h p [] ≡ arc t (n + h) ∷ arc h (n + t) ∷ []
-  over-is zero p a b = absurd (a refl)
-  over-is (suc s) zero a b = absurd (b refl)
-  over-is (suc s) (suc p) a b = refl
+-- A ↛ link crosses by n places, a → link by none.
+pub crossed-most : (w n : ℕ) → parity w * n ≤ n
+crossed-most w n = at (parity w) (omega arith)
+  where
+    at : (p : ℕ) → p < 2 → p * n ≤ n
+    at zero l = omega (arith, zero-mul n)
+    at (suc zero) l = omega (arith, one-mul n)
+    at (suc (suc p)) l = absurd (omega arith)
 
 -- The moves of the word w.
 abbrev pub wordArcs : ℕ → ℕ → ℕ → List Arc
@@ -42,10 +54,6 @@ module _ (n sign w : ℕ) {t h : ℕ} (tail : t ≡ tailOf w) (head : h ≡ head
   pub no-move : sign ≡ 0 → (parity w ≡ 0 → ⊥) → wordArcs n sign w ≡ []
   no-move a b = none-is n (tailOf w) (headOf w) sign (parity w) a b
 
-  -- Asked for an "is not", a → link is a move along itself in the first part, and back in the second.
-  pub along-and-back : (sign ≡ 0 → ⊥) → parity w ≡ 0 → wordArcs n sign w ≡ arc t h ∷ arc (n + h) (n + t) ∷ []
-  along-and-back a b = rw (tail, head) (both-is n (tailOf w) (headOf w) sign (parity w) a b)
-
-  -- A ↛ link crosses over either way.
-  pub over-both : (sign ≡ 0 → ⊥) → (parity w ≡ 0 → ⊥) → wordArcs n sign w ≡ arc t (n + h) ∷ arc h (n + t) ∷ []
-  over-both a b = rw (tail, head) (over-is n (tailOf w) (headOf w) sign (parity w) a b)
+  -- Asked for an "is not", a → link is a move along itself in the first part, and back in the second; a ↛ link crosses over either way.
+  pub two-moves : (sign ≡ 0 → ⊥) → wordArcs n sign w ≡ arc t (h + parity w * n) ∷ arc (n + h - parity w * n) (n + t) ∷ []
+  two-moves a = rw (tail, head) (both-are n (tailOf w) (headOf w) sign (parity w) a (omega arith))

@@ -1,6 +1,6 @@
--- The better of two states by one move, by the moves of one word, and what a state stands for, in the terms of the code.
+-- The better of two states by one move, and by the moves of the words one after another, and what a state stands for, in the terms of the code.
 use Prim.Native.Nat.{ℕ, _+_, _-_, _≤_, _<_}
-use mathlib.Core.Path.{_≡_, refl, sym, _∙_}
+use mathlib.Core.Path.{_≡_, refl, sym, ap, _∙_}
 use mathlib.Core.Bool.{Bool, true, false, cond}
 use mathlib.Core.List.{List, [], _∷_}
 use native.Mathlib.Omega.{arith}
@@ -8,10 +8,11 @@ use borrow.Author.Tests.{eq-eqb, ne-eqb, lt-ltb, le-ltb}
 use lib.Dec.{eqb, ltb}
 use lib.ListN.{length, getD, drop}
 use Rattle.theory.specs.Reasons.{never}
-use Rattle.theory.specs.Words.{Sign}
+use Rattle.theory.specs.Words.{signAt}
 use Rattle.theory.specs.Searches.{Arc, arc, arcs, next, nodeOf}
-use Rattle.theory.specs.Origins.{plainOf, chooses, chosen}
-use Rattle.theory.proofs.origins.Folds.{nextWord, chosen-next-go}
+use Rattle.theory.specs.Origins.{chosen}
+use Rattle.theory.proofs.origins.Folds.{chosen-next-go}
+use Rattle.reason_search.proofs.WordMoves.{word-moves}
 use Rattle.reason_search.proofs.Opening.{at-place}
 use Rattle.reason_walk.specs.Walk.{firstPart}
 
@@ -40,29 +41,24 @@ module _ (a b s i z : ℕ) (d : List ℕ) where
       unfolding next
       not-smaller h = rw (eq-eqb a s here, near, le-ltb b z h)
 
--- A word whose moves are known, and what the code found.
-module _ (l : List Arc) (d : List ℕ) (s i z : ℕ) where
-  pub next-none : l ≡ [] → z ≡ next l d s i z
+-- The search for a next state goes along moves one after the other.
+module _ (d : List ℕ) (u i : ℕ) where
+  pub next-none : (z : ℕ) → next [] d u i z ≡ z
   unfolding next
-  next-none q = rw q refl
+  next-none z = refl
 
-  pub next-one : (e : Arc) {b : ℕ} → l ≡ e ∷ [] → b ≡ next (e ∷ []) d s i z → b ≡ next l d s i z
-  next-one e q h = rw q h
-
-  pub next-two : (e f : Arc) {a b : ℕ} → l ≡ e ∷ f ∷ [] → a ≡ next (e ∷ []) d s i z → b ≡ next (f ∷ []) d s i a → b ≡ next l d s i z
+  pub next-two : (e f : Arc) (z : ℕ) → next (e ∷ f ∷ []) d u i z ≡ next (f ∷ []) d u i (next (e ∷ []) d u i z)
   unfolding next
-  next-two e f q g h = rw (q, ← g) h
+  next-two e f z = refl
 
--- A search over the chosen words has come to word j, and the code told whether it is one of them.
-module _ (set n : ℕ) (s : Sign) (ws : List ℕ) (j : ℕ) (d : List ℕ) (u i z : ℕ) {c : ℕ} {q : Bool}
-    (at : j < length ws) (rest : c ≡ next (arcs n s (chosen set (drop j ws))) d u i z) (told : q ≡ chooses set (getD ws j 0)) where
-  -- It is: the search goes on from what it found over the plain word.
-  pub next-chosen : q ≡ true → {w b : ℕ} → w ≡ plainOf (getD ws j 0) → b ≡ nextWord n s d u i w z → c ≡ next (arcs n s (chosen set (drop (j + 1) ws))) d u i b
-  next-chosen t e f = rest ∙ chosen-next-go set n s d u i ws j z at ∙ rw (sym told ∙ t, f, e) refl
-
-  -- It is not: the best so far stays.
-  pub next-passed : q ≡ false → c ≡ next (arcs n s (chosen set (drop (j + 1) ws))) d u i z
-  next-passed t = rest ∙ chosen-next-go set n s d u i ws j z at ∙ rw (sym told ∙ t) refl
+-- It has come to word j of the chosen words, and made of the best so far what the word does to it.
+pub next-more : (set n s : ℕ) (ws : List ℕ) (j : ℕ) (d : List ℕ) (u i z : ℕ) {c b : ℕ} → j < length ws → c ≡ next (arcs n (signAt s) (chosen set (drop j ws))) d u i z
+    → b ≡ next (arcs n (signAt s) (chosen set (getD ws j 0 ∷ []))) d u i z
+    → c ≡ next (arcs n (signAt s) (chosen set (drop (j + 1) ws))) d u i b
+next-more set n s ws j d u i z at rest e =
+    rest
+    ∙ chosen-next-go set n (signAt s) d u i ws j z at
+    ∙ ap (next (arcs n (signAt s) (chosen set (drop (j + 1) ws))) d u i) (sym (e ∙ word-moves (λ (l : List Arc). next l d u i) (next-none d u i) (next-two d u i) set n s (getD ws j 0) z))
 
 -- A state of the first part is its node, one of the second its node and N more.
 module _ (n v : ℕ) where

@@ -1,23 +1,34 @@
 // The way along the distances, over the words that a set of origins chooses: the smallest next state at each step, one pass over the words for each, and the nodes written.
 ghost use mathlib.Core.Path.{_≡_};
+ghost use mathlib.Core.Bool.{cond};
 ghost use mathlib.Core.List.{[], _∷_, _++_, map};
 ghost use Prim.Native.Nat.{_+_, _<_, _≤_};
 ghost use lib.ListN.{length, getD, drop};
-ghost use Rattle.theory.specs.Words.{signAt, tailOf, headOf, parity};
+ghost use Rattle.theory.specs.Words.{signAt};
 ghost use Rattle.theory.specs.Reasons.{never};
-ghost use Rattle.theory.specs.Searches.{arc, arcsOf, arcs, next, firsts, nodeOf};
-ghost use Rattle.theory.specs.Inside.{Ends};
-ghost use Rattle.theory.specs.Origins.{chosen, NetFrom};
+ghost use Rattle.theory.specs.Searches.{arc, arcs, next, firsts, nodeOf};
+ghost use Rattle.theory.specs.Origins.{originOf, originLimit, chooses, chosen, NetFrom, EndsFrom};
 ghost use Rattle.reason_walk.specs.Walk.{Leads, statesFrom, firstPart};
 use net_word::head_of;
 use net_word::is_chosen;
 use net_word::plain_of;
 use net_word::tail_of;
 
-// The better of `best` and the state that one move leads to, if it comes from `state` and leads to distance `i`.
-fn better_of(from: usize, to: usize, places: &[u16], state: usize, i: u16, best: usize) -> usize
-    requires { ⌜ to < length (now places) ⌝ }
-    ensures { λ r. ⌜ r ≡ next (arc from to ∷ []) (now (places .entry)) state i best ⌝ }
+// The better of `best` and the state that one move of a word leads to, if the word is chosen and the move comes from `state` and leads to
+// distance `i`.
+fn better_of(
+    set: u32,
+    word: u32,
+    from: usize,
+    to: usize,
+    places: &[u16],
+    state: usize,
+    i: u16,
+    best: usize,
+) -> usize
+    requires origin { ⌜ originOf word ≤ originLimit ⌝ }
+    requires inside { ⌜ to < length (now places) ⌝ }
+    ensures { λ r. ⌜ r ≡ cond (chooses set word) (next (arc from to ∷ []) (now (places .entry)) state i best) best ⌝ }
 {
     if from != state {
         return best;
@@ -25,38 +36,45 @@ fn better_of(from: usize, to: usize, places: &[u16], state: usize, i: u16, best:
     if places[to] != i {
         return best;
     }
+    if !is_chosen(set, word) {
+        return best;
+    }
     if to < best { to } else { best }
 }
 
-// The same over the moves of one plain word.
+// The same over the moves of one word. Few words have a move from `state`, so the word's origin is looked at last. Asked for an "is not", a ↛
+// link crosses to the other part, `crossed` places on.
 fn best_of_word(
     n: usize,
     sign: u32,
+    set: u32,
     word: u32,
     places: &[u16],
     state: usize,
     i: u16,
     best: usize,
 ) -> usize
-    requires ends { ⌜ Ends n word ⌝ }
+    requires ends { ⌜ EndsFrom n word ⌝ }
     requires few { ⌜ n ≤ 1024 ⌝ }
     requires room { ⌜ length (now places) ≡ n + n ⌝ }
-    ensures { λ r. ⌜ r ≡ next (arcsOf n (signAt sign) (tailOf word) (headOf word) (parity word) []) (now (places .entry)) state i best ⌝ }
+    ensures { λ r. ⌜ r ≡ next (arcs n (signAt sign) (chosen set (word ∷ []))) (now (places .entry)) state i best ⌝ }
 {
-    let tail = tail_of(word);
-    let head = head_of(word);
+    let plain = plain_of(word);
+    let tail = tail_of(plain);
+    let head = head_of(plain);
     if sign == 0 {
-        if word % 2 == 0 {
-            return better_of(tail, head, places, state, i, best);
+        if tail != state {
+            return best;
         }
-        return best;
+        if word % 2 != 0 {
+            return best;
+        }
+        return better_of(set, word, tail, head, places, state, i, best);
     }
-    if word % 2 == 0 {
-        let along = better_of(tail, head, places, state, i, best);
-        return better_of(n + head, n + tail, places, state, i, along);
-    }
-    let over = better_of(tail, n + head, places, state, i, best);
-    better_of(head, n + tail, places, state, i, over)
+    let crossed = (word % 2) as usize * n;
+    let there = better_of(set, word, tail, head + crossed, places, state, i, best);
+    let from = n + head - crossed;
+    better_of(set, word, from, n + tail, places, state, i, there)
 }
 
 // The smallest state at distance `i` that a move of a chosen word leads to from `state`, or 2N where there is none.
@@ -76,12 +94,8 @@ fn next_state(
     let mut best = n + n;
     let mut j = 0;
     while j < words.len() {
-        let word = words[j];
+        best = best_of_word(n, sign, set, words[j], places, state, i, best);
         j += 1;
-        if is_chosen(set, word) {
-            let plain = plain_of(word);
-            best = best_of_word(n, sign, plain, places, state, i, best);
-        }
     }
     best
 }

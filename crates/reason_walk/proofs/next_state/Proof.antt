@@ -8,8 +8,8 @@ use Rattle.theory.specs.Words.{signAt}
 use Rattle.theory.specs.Searches.{arcs, next}
 use Rattle.theory.specs.Origins.{chosen}
 use Rattle.theory.proofs.origins.Folds.{chosen-next-end}
-use Rattle.reason_search.proofs.Levelling.{ends-at, ends-of-plain}
-use Rattle.reason_walk.proofs.Nearer.{next-chosen, next-passed}
+use Rattle.reason_search.proofs.Levelling.{ends-at}
+use Rattle.reason_walk.proofs.Nearer.{next-more}
 use Rattle.reason_walk.proofs.next_state.Statement.{statement}
 use Rattle.reason_walk.proofs.next_state.Tie as tie
 
@@ -29,39 +29,20 @@ add-best c =
 loop-holds : tie.Need-loop-holds Inv-loop μ-loop
 loop-holds c = (search needs, refl)
 
-is-chosen-requires : tie.Need-is-chosen-requires Inv-loop μ-loop
-is-chosen-requires c κs =
+best-of-word-requires : tie.Need-best-of-word-requires Inv-loop μ-loop
+best-of-word-requires c κs =
     let at = c .before .before in
     let s = at .before .before .before in
     let a = s .args in
-    ends-at (a .n) (a .words .now) (s .pre .0) (at .loop .j) (omega arith) .origin
-
-best-of-word-requires : tie.Need-best-of-word-requires Inv-loop μ-loop
-best-of-word-requires c κs =
-    let at = c .before .before .before .before .before in
-    let s = at .before .before .before in
-    let a = s .args in
     let net = s .pre .0 in
-    let e = ends-at (a .n) (a .words .now) net (at .loop .j) (omega arith) in
-    (ends-of-plain e (c .plain-of .ensures), (omega (arith, net .few), s .pre .1))
+    (ends-at (a .n) (a .words .now) net (at .loop .j) (omega arith), (omega (arith, net .few), s .pre .1))
 
 loop-again : tie.Need-loop-again Inv-loop μ-loop
 loop-again c =
-    let plain = c .before in
-    let told = plain .before .before in
-    let at = told .before .before .before in
+    let at = c .before .before .before in
     let a = at .before .before .before .args in (
       omega arith,
-      next-chosen (a .set) (a .n) (signAt (a .sign)) (a .words .now) (at .loop .j) (a .places .now) (a .state) (a .i) (at .loop .best) (omega arith) (at .loop .inv .1) (told .is-chosen .ensures) (plain .before .if1 .taken) (plain .plain-of .ensures) (c .best-of-word .ensures),
-    )
-
-loop-again-2 : tie.Need-loop-again-2 Inv-loop μ-loop
-loop-again-2 c =
-    let told = c .before in
-    let at = told .before .before .before in
-    let a = at .before .before .before .args in (
-      omega arith,
-      next-passed (a .set) (a .n) (signAt (a .sign)) (a .words .now) (at .loop .j) (a .places .now) (a .state) (a .i) (at .loop .best) (omega arith) (at .loop .inv .1) (told .is-chosen .ensures) (c .if1 .left),
+      next-more (a .set) (a .n) (a .sign) (a .words .now) (at .loop .j) (a .places .now) (a .state) (a .i) (at .loop .best) (omega arith) (at .loop .inv .1) (c .best-of-word .ensures),
     )
 
 returns : tie.Need-returns Inv-loop μ-loop
@@ -80,12 +61,8 @@ next-state-spec =
     loop-holds
     (search needs)
     (search needs)
-    (search needs)
-    is-chosen-requires
-    (search needs)
     best-of-word-requires
     (search needs)
-    loop-again
     (search needs)
-    loop-again-2
+    loop-again
     returns)
