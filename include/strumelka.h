@@ -92,7 +92,7 @@ extern "C" {
 /* The most pairs of a screenful. */
 #define STRUMELKA_PAIR_LIMIT 64u
 
-/* The most sequents on a branch of a proof, and what the check of a proof gives where no one step is at fault. */
+/* The most sequents one above another in a proof, and what the check of a proof gives where no one step is at fault. */
 #define STRUMELKA_SEQUENT_LIMIT 255u
 #define STRUMELKA_NO_STEP 4294967295u
 
@@ -317,13 +317,15 @@ struct strumelka_answer strumelka_reason_check(
  * calculus, built from the shortest reason. The list begins with the number of branches and, for each of them, the place of
  * its first step and the number of its steps: branch 0 is the whole proof, branch i the left premise of the i-th left rule.
  * The steps follow, three places each: STRUMELKA_RULE_.., the object, and the link or the statement as a plain word. Each
- * stands before its left premise, and that before the main one. The fresh object has the number o + k.
+ * stands before its left premise, and that before the main one. The fresh object has the number o + k. Where that is 1,024,
+ * words about it are 2,097,152 and more: their tail is word / 2,048, which STRUMELKA_TAIL does not give, and they have no
+ * origin.
  *   0            first = the places written to the front of list; places after them unchanged
  *   1, 2, 15, 3  as in strumelka_check_net
  *   4            x is no node, y is no kind, or sign is neither of the two; scratch and list unchanged
  *   5            scratch_len is below STRUMELKA_SCRATCH(o, k); scratch and list unchanged
  *   7            the net does not support the statement; list unchanged
- *   11           the proof has more than STRUMELKA_SEQUENT_LIMIT sequents on a branch; list unchanged
+ *   11           the proof has more than STRUMELKA_SEQUENT_LIMIT sequents one above another; list unchanged
  *   8            list_len is too small; first = the places needed; list unchanged
  * With 0, 7, 11 and 8 the scratch is as strumelka_reason leaves it. */
 struct strumelka_answer strumelka_proof(
@@ -338,8 +340,9 @@ struct strumelka_answer strumelka_proof(
  *   1, 2, 15, 3  as in strumelka_check_net
  *   4            x is no node, y is no kind, or sign is neither of the two
  *   12           it does not: it is malformed, a step is not by its rule, it proves another statement or has more than
- *                STRUMELKA_SEQUENT_LIMIT sequents on a branch; first = the first step at fault, counted from 0 in the order of
- *                the list, or STRUMELKA_NO_STEP where no one step is, as in a list that is cut short or has wrong contents */
+ *                STRUMELKA_SEQUENT_LIMIT sequents one above another; first = the first step at fault, counted from 0 in the
+ *                order of the list, or STRUMELKA_NO_STEP where no one step is, as in a list that is cut short or has wrong
+ *                contents */
 struct strumelka_answer strumelka_proof_check(
     uint32_t o, uint32_t k, const uint32_t *words, size_t words_len, uint32_t set,
     uint32_t x, uint32_t y, uint32_t sign,

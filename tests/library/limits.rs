@@ -251,7 +251,7 @@ fn complete_longest_chain(operations: &[Operation], tally: &mut Tally) -> Result
     Ok(())
 }
 
-/// A chain that begins with an object, and one of kinds alone. Up to one of its kinds the proof has as many sequents on a branch as are allowed; up to the next
+/// A chain that begins with an object, and one of kinds alone. Up to one of its kinds the proof has as many sequents one above another as are allowed; up to the next
 /// it has one more, and the last of them is at fault. Each proof with room for it, and with a place too few.
 fn prove_deepest(operations: &[Operation], tally: &mut Tally) -> Result<(), String> {
     const DEEPEST: usize = 255;

@@ -7,25 +7,28 @@ use mathlib.Core.Logic.{inl, inr}
 use native.Mathlib.Omega.{arith}
 use lib.Dec.{eqb, ltb}
 use lib.ListN.{length, take, drop}
-use lib.Seq.{drop-at}
-use borrow.Author.Tests.{ltb-false, lt-ltb, le-ltb}
+use lib.Seq.{take-at, drop-at}
+use borrow.Author.Tests.{ltb-true, ltb-false, lt-ltb, le-ltb}
 use Rattle.theory_laws.specs.Over.{over}
 use Rattle.theory_laws.proofs.Over.{length-over}
 use Rattle.theory.specs.Words.{signAt}
 use Rattle.theory.specs.Nets.{Links}
 use Rattle.theory.specs.Support.{Supported}
-use Rattle.theory.specs.Reasons.{never}
+use Rattle.theory.specs.Reasons.{written, never}
 use Rattle.theory.specs.Origins.{chosen}
-use Rattle.theory.specs.ProofFiles.{depthLimit, Proves}
+use Rattle.theory.specs.Sequents.{Proof}
+use Rattle.theory.specs.ProofFiles.{proofDepth, proofFile, depthLimit, Proves}
 use Rattle.net.specs.Table.{badStatement}
 use Rattle.net.specs.Good.{GoodStatement}
 use Rattle.net.proofs.Good.{good-statement, good-kind}
 use Rattle.reason.specs.Table.{filled, reasonOf}
-use Rattle.proof_form.specs.Ours.{ourDepth}
+use Rattle.proof_form.specs.Ours.{ourFile, ourDepth}
+use Rattle.proof_form.proofs.Building as building
 use Rattle.proof.specs.Table.{ProofOutcome, linksOf, proofOf, proved, provedReply}
 use Rattle.proof.specs.declared.Proved.{Proved}
 use Rattle.proof.specs.declared.Proved.the-variants as provedAs
-use Rattle.proof.proofs.AfterReason.{done-proves}
+use Rattle.proof.proofs.Ours.{OurProof, our-proof}
+use Rattle.proof.proofs.AfterReason.{done-proves, scratch-as-reason}
 use Rattle.proof_check.proofs.Exactly.{judged-exactly, faulty-exactly, no-step-exactly, judged-supported}
 use Rattle.promises.specs.Engines.{Read, ours}
 use Rattle.promises.specs.Numbers.{proofNumber}
@@ -33,7 +36,7 @@ use Rattle.promises.specs.Reasoning.{ReasonOf}
 use Rattle.promises.specs.Proving.{Proving}
 use Rattle.promises.proofs.Demand1.{proof-obeys}
 use Rattle.promises.proofs.Tests.{past-checks, chosen-of, away-exactly}
-use Rattle.promises.proofs.Reasoning.{reason-of}
+use Rattle.promises.proofs.Reasoning.{near, reason-of}
 use Rattle.promises.proofs.PlainAsked.{room, one-size}
 use Rattle.promises.proofs.PlainProofs.{sized, proof-0}
 
@@ -71,6 +74,40 @@ module _ (o k : ℕ) (ws : List ℕ) (set x y sign : ℕ) (d l : List ℕ) where
         as-long = ap length w ∙ length-over all l h;
         fits = omega (arith, h, z);
       }
+
+  -- The reason's path, from which our proof is built, where there is a way.
+  path-of : Read o k ws set → GoodStatement o (o + k) x y sign → eqb (linksOf picked x y sign (o + k)) never ≡ false → OurProof o k picked x y sign
+  path-of read good way =
+      let net = chosen-of o k ws set read in
+      our-proof o k picked x y sign net good (near o k picked x y sign net (good .pair .node) (good-kind (good .pair)) way)
+
+  abbrev reasonBy : (p : OurProof o k picked x y sign) → ReasonOf o k picked x y sign (length (written x (p .xs) (p .ys)))
+  reasonBy p = record { xs = p .xs; ys = p .ys; shortest = p .shortest; long = refl }
+
+  -- What is written is our proof,
+  is-ours : (size : ℕ) → outcome .answer ≡ provedAs.Done size
+      → (places : ℕ) × (r : ReasonOf o k picked x y sign places) × (take size (outcome .list) ≡ ourFile o (o + k) picked x y (signAt sign) (r .xs) (r .ys))
+  is-ours size e =
+      let f = found size e in
+      let u = proof-obeys o k ws set x y sign d l .exactly 0 .0 (ap (λ (r : Proved). provedReply r .number) e) in
+      let q = proof-obeys o k ws set x y sign d l .leaves 0 u in
+      let z : length all ≡ size = ap (λ (r : Proved). provedReply r .first) (sym (ap (λ (r : ProofOutcome). r .answer) q) ∙ e) in
+      let p = path-of (f .read) (f .good) (u .1 .1 .1 .1 .1 .1 .0) in
+      (length (written x (p .xs) (p .ys)), reasonBy p, ap (λ (r : ProofOutcome). take size (r .list)) q ∙ (take-at all (drop (length all) l) size z ∙ p .list))
+
+  -- and what is too deep is ours.
+  too-deep : outcome .answer ≡ provedAs.TooDeep
+      → (places : ℕ) × (r : ReasonOf o k picked x y sign places) × (p : Proof o k picked x y (signAt sign))
+      × (proofFile p ≡ ourFile o (o + k) picked x y (signAt sign) (r .xs) (r .ys)) × (depthLimit < proofDepth p)
+  too-deep e =
+      let u = proof-obeys o k ws set x y sign d l .exactly 11 .0 (ap (λ (r : Proved). provedReply r .number) e) in
+      let read : Read o k ws set = past-checks o k ws set .0 (u .0, u .1 .0, u .1 .1 .0, u .1 .1 .1 .0) in
+      let good : GoodStatement o (o + k) x y sign = good-statement o (o + k) x y sign .0 (u .1 .1 .1 .1 .0) in
+      let p = path-of read good (u .1 .1 .1 .1 .1 .1 .0) in
+      let b = building.ours o k picked (chosen-of o k ws set read) x y (signAt sign) (p .xs) (p .ys) (good .pair .node) (good-kind (good .pair)) (p .shortest .path) in
+      let h : depthLimit < ourDepth o x (linksOf picked x y sign (o + k)) = ltb-true depthLimit (ourDepth o x (linksOf picked x y sign (o + k))) (u .1 .1 .1 .1 .1 .1 .1) in
+      let more : depthLimit < proofDepth (b .proof) = subst (λ (i : ℕ). depthLimit < i) (ap (ourDepth o x) (p .counted) ∙ sym (b .deep)) h in
+      (length (written x (p .xs) (p .ys)), reasonBy p, b .proof, b .form, more)
 
   -- A good statement over a net, with room in the scratch and a reason.
   module _ (read : Read o k ws set) (good : GoodStatement o (o + k) x y sign) (wide : 2 * (o + k) ≤ length d) where
@@ -125,6 +162,9 @@ proving = record {
   accepted = λ o k ws set x y sign d l size e.
       let f = found o k ws set x y sign d l size e in
       judged-exactly o k ws set x y sign (take size (proved o k ws set x y sign d l .list)) .1 ((f .read .allowed, f .read .net), f .good, f .proves);
+  ours = is-ours;
+  deep = too-deep;
+  scratch = scratch-as-reason;
   whenever = ends;
   object = λ o k ws set x y sign d l places read good wide. of-object o k ws set x y sign d l read good wide places;
   kind = λ o k ws set x y sign d l places read good wide. of-kind o k ws set x y sign d l read good wide places;

@@ -9,8 +9,10 @@ use Rattle.theory.specs.Words.{signAt}
 use Rattle.theory.specs.Nets.{Links}
 use Rattle.theory.specs.Support.{Supported}
 use Rattle.theory.specs.Origins.{chosen}
-use Rattle.theory.specs.ProofFiles.{Proves, FaultAt}
+use Rattle.theory.specs.Sequents.{Proof}
+use Rattle.theory.specs.ProofFiles.{proofDepth, proofFile, depthLimit, Proves, FaultAt}
 use Rattle.net.specs.Good.{GoodStatement}
+use Rattle.proof_form.specs.Ours.{ourFile}
 use Rattle.proof.specs.declared.Proved.the-variants as proved
 use Rattle.proof_check.specs.Table.{noStep}
 use Rattle.proof_check.specs.declared.Judged.the-variants.{Accepted, Faulty}
@@ -26,6 +28,16 @@ pub record Proving (e : Engine) : Type 0 where
   -- Those numbers are accepted by the check.
   pub accepted : (o k : ℕ) (ws : List ℕ) (set x y sign : ℕ) (d l : List ℕ) (size : ℕ) → e .proof o k ws set x y sign d l .answer ≡ proved.Done size
       → e .proofCheck o k ws set x y sign (take size (e .proof o k ws set x y sign d l .list)) ≡ Accepted
+  -- They are the list of our proof: the one that Lemmas 9 to 12 build, link by link, from the two parts of the shortest reason.
+  pub ours : (o k : ℕ) (ws : List ℕ) (set x y sign : ℕ) (d l : List ℕ) (size : ℕ) → e .proof o k ws set x y sign d l .answer ≡ proved.Done size
+      → (places : ℕ) × (r : ReasonOf o k (chosen set ws) x y sign places)
+      × (take size (e .proof o k ws set x y sign d l .list) ≡ ourFile o (o + k) (chosen set ws) x y (signAt sign) (r .xs) (r .ys))
+  -- Number 11: our proof has more than 255 sequents one above another.
+  pub deep : (o k : ℕ) (ws : List ℕ) (set x y sign : ℕ) (d l : List ℕ) → e .proof o k ws set x y sign d l .answer ≡ proved.TooDeep
+      → (places : ℕ) × (r : ReasonOf o k (chosen set ws) x y sign places) × (p : Proof o k (chosen set ws) x y (signAt sign))
+      × (proofFile p ≡ ourFile o (o + k) (chosen set ws) x y (signAt sign) (r .xs) (r .ys)) × (depthLimit < proofDepth p)
+  -- The scratch is left as the reason leaves it, whatever list the reason gets.
+  pub scratch : (o k : ℕ) (ws : List ℕ) (set x y sign : ℕ) (d l m : List ℕ) → e .proof o k ws set x y sign d l .scratch ≡ e .reason o k ws set x y sign d m .scratch
   -- Over a net and a set, with room in the scratch, the writer is done with every supported statement whose proof is not too deep and finds room.
   pub whenever : (o k : ℕ) (ws : List ℕ) (set x y sign : ℕ) (d l : List ℕ) → Read o k ws set → GoodStatement o (o + k) x y sign → 2 * (o + k) ≤ length d
       → Supported o k (Links (chosen set ws)) x y (signAt sign) → (e .proof o k ws set x y sign d l .answer ≡ proved.TooDeep → ⊥)

@@ -32,7 +32,7 @@ use Rattle.reason.specs.declared.Reasoned.the-variants as reason
 use Rattle.proof_form.specs.Ours.{ourDepth}
 use Rattle.proof_given.specs.Held.{Entered}
 use Rattle.proof_form.proofs.Tests.{by-test}
-use Rattle.proof.specs.Table.{ProofOutcome, proofOutcome, linksOf, proofOf, roomClauses, roomDone, proofClauses, proofDone, proved}
+use Rattle.proof.specs.Table.{ProofOutcome, proofOutcome, linksOf, proofOf, roomClauses, roomDone, proofClauses, proofDone, proofTable, proved}
 use Rattle.proof.specs.Listed.{listed}
 use Rattle.proof.proofs.Ours.{object-link, written-proves}
 use Rattle.proof.specs.declared.Proved.{Proved}
@@ -247,3 +247,36 @@ module _ (o k : ℕ) (ws : List ℕ) (set x y sign : ℕ) (d l : List ℕ) where
 
   pub done-proves : (m : ℕ) (past q : List ℕ) → proved o k ws set x y sign d l ≡ proofOutcome (Done m) past q → Proves o k (chosen set ws) x y (signAt sign) (take m q)
   done-proves m past q e = subst proven e (outcome-proven (checkNet o k ws set) refl)
+
+-- ── the scratch ──
+-- Clauses that all leave the same.
+always : {A : Type 0} (a : A) (b c d : Bool) → cond b a (cond c a a) ≡ cond d a a
+always a b c d = three b (one c) ∙ sym (one d)
+  where
+    one : (c : Bool) → cond c a a ≡ a
+    one true = refl
+    one false = refl
+
+    three : (b : Bool) → cond c a a ≡ a → cond b a (cond c a a) ≡ a
+    three true e = refl
+    three false e = e
+
+-- The writer leaves the scratch as the reason does, whatever list the reason gets.
+pub scratch-as-reason : (o k : ℕ) (ws : List ℕ) (set x y sign : ℕ) (d l m : List ℕ) → proved o k ws set x y sign d l .scratch ≡ reasoned o k ws set x y sign d m .scratch
+scratch-as-reason o k ws set x y sign d l m =
+    let n = o + k in
+    let vs = chosen set ws in
+    let links = linksOf vs x y sign n in
+    let past = filled vs y sign d n in
+    let deep = ltb depthLimit (ourDepth o x links) in
+    let short = ltb (length l) (length (proofOf o vs x y sign n)) in
+    let shorter = ltb (length m) (length (reasonOf vs x y sign n)) in
+    turned-call (λ (z : ProofOutcome). z .scratch) (proofTable o k ws set x y sign d l) (proofDone o vs x y sign d l n)
+    ∙ (same-front
+    (netClauses (λ r. d) o k ws set (clause 4 (badStatement o n x y sign) d ∷ clause 5 (ltb (length d) (n + n)) d ∷ clause 7 (eqb links never) past ∷ []))
+    (clause 11 deep past ∷ clause 8 short past ∷ [])
+    (clause 8 shorter past ∷ [])
+    past
+    past
+    (always past deep short shorter)
+    ∙ sym (turned-call (λ (z : ReasonOutcome). z .scratch) (reasonTable o k ws set x y sign d m) (reasonDone vs x y sign d m n)))

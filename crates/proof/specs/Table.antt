@@ -34,8 +34,8 @@ linksOf ws x y sign n = getD (distances n (signAt sign) ws y) x never
 abbrev pub proofOf : ℕ → List ℕ → ℕ → ℕ → ℕ → ℕ → List ℕ
 proofOf o ws x y sign n = fromReason o n ws x y (signAt sign) (reasonOf ws x y sign n) (linksOf ws x y sign n)
 
--- Clauses 11 and 8 once the reason is found, where the scratch is left as `past`: the longest branch of our proof has too many sequents; the list
--- has no room for `all`.
+-- Clauses 11 and 8 once the reason is found, where the scratch is left as `past`: our proof has too many sequents one above another; the list has
+-- no room for `all`.
 abbrev pub roomClauses : ℕ → List ℕ → List ℕ → List ℕ → List (Clause ProofOutcome)
 roomClauses deep all past l =
     clause 11 (ltb depthLimit deep) (proofOutcome TooDeep past l)

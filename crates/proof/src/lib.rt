@@ -25,7 +25,7 @@ pub enum Proved {
     Refused(Refusal),
 }
 
-// The most links of a kind's reason: two more sequents stand on the longest branch.
+// The most links of a kind's reason: two more sequents stand one above another.
 const KIND_LINKS: usize = 253;
 
 // The first link of an object's reason, as a word.
@@ -132,6 +132,7 @@ pub fn write_proof(
 ) -> Proved
     ensures { λ r. ⌜ proofOutcome r (now (scratch .exit)) (now (list .exit)) ≡ proved o k (now (words .entry)) set x y sign (now (scratch .entry)) (now (list .entry)) ⌝ }
 {
+    // Room for the longest reason of a proof that is not too deep: an object's with 255 links, three places more as it is written.
     let mut path = [0u16; 258];
     let found = find_reason(o, k, words, set, x, y, sign, scratch, &mut path);
     match found {

@@ -1,4 +1,4 @@
-// The steps of our proof about one individual: those that use links, the innermost axiom, the axioms beside the links.
+// Our proof's list: the contents, then the steps: a kind's right rule, those that use links, the innermost axiom, the axioms beside the links.
 ghost use mathlib.Core.Path.{_≡_};
 ghost use mathlib.Core.List.{_++_, [], _∷_};
 ghost use Prim.Native.Nat.{ℕ, _+_, _*_, _≤_, _<_};

@@ -10,7 +10,7 @@ use proof_form::Walked;
 use proof_given::branch_fits;
 use proof_rule::ask;
 
-// The proof of `goal` that begins with step `step`, where at most `depth` sequents may stand on a branch.
+// The proof of `goal` that begins with step `step`, where at most `depth` sequents may stand one above another.
 pub fn check_sequent(
     o: usize,
     n: usize,

@@ -27,7 +27,7 @@ pub enum Judged {
 // Where no one step is at fault.
 const NO_STEP: u32 = 4294967295;
 
-// The most numbers in a list, and the most sequents on a branch.
+// The most numbers in a list, and the most sequents one above another.
 const LIST_LIMIT: usize = 4294967295;
 
 const DEPTH_LIMIT: usize = 255;
@@ -47,6 +47,7 @@ fn close_walk(list: &[u32], branches: usize, base: usize, walked: Walked) -> Fou
             if met != branches {
                 return Found::Nowhere;
             }
+            // This test bounds `end`, so that the next one does not overflow.
             if (list.len() - base) / 3 != end {
                 return Found::Nowhere;
             }

@@ -33,7 +33,7 @@ module _ (o k : ℕ) (Γ : List ℕ) (a : ℕ) (one : Individual o k a) where
   HopsLead v s [] y t = (v ≡ y) × (s ≡ t)
   HopsLead v s (h ∷ hs) y t = Goes v s h × HopsLead (toKind h) (toSign h) hs y t
 
-  -- A proof of a → y, or a ↛ y, with n steps, d sequents on the longest branch, m left premises, the steps q and the branches f.
+  -- A proof of a → y, or a ↛ y, with n steps, depth d, m left premises, the steps q and the branches f.
   pub record Has (y : ℕ) (s : Sign) (n d m : ℕ) (q : List ℕ) (f : ℕ → ℕ → List ℕ) : Type 0 where
     pub proof : Proof o k Γ a y s
     pub sized : proofSize proof ≡ n

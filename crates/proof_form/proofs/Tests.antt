@@ -3,7 +3,7 @@ use Prim.Native.Nat.{ℕ, _+_, _≤_, _<_}
 use mathlib.Core.Path.{_≡_, refl, sym, ap, _∙_}
 use mathlib.Core.Bool.{Bool, true, false, cond, not, _&&_, _||_}
 use mathlib.Core.List.{List, [], _∷_, _++_, List·Memᴰ, List·Memᴰ·head, List·Memᴰ·tail, List·Memᴰ·cases-cons, List·Memᴰ·append-cases, Memᴰ·append-left, Memᴰ·append-right}
-use mathlib.Core.Logic.{_⊎_, inl, inr, ⊎-elim, ⊎-swap}
+use mathlib.Core.Logic.{_⊎_, inl, inr, ⊎-elim}
 use native.Mathlib.Omega.{arith}
 use lib.Dec.{eqb, ltb, leb}
 use borrow.Author.Tests.{eqb-true, eq-eqb, ne-eqb}
@@ -36,9 +36,9 @@ decides-stands w (v ∷ l) = decides-same (eqb v w || standsIn w l) (decides-eit
     (λ m. ⊎-elim (λ e. inl (sym e)) inr (List·Memᴰ·cases-cons m))
 
 pub decides-given : (ws A : List ℕ) (w : ℕ) → Decides (given ws A w) (List·Memᴰ w (A ++ ws))
-decides-given ws A w = decides-same (given ws A w) (decides-either (standsIn w ws) (standsIn w A) (decides-stands w ws) (decides-stands w A))
-    (⊎-elim (Memᴰ·append-right A) (Memᴰ·append-left ws))
-    (λ m. ⊎-swap (List·Memᴰ·append-cases A m))
+decides-given ws A w = decides-same (given ws A w) (decides-either (standsIn w A) (standsIn w ws) (decides-stands w A) (decides-stands w ws))
+    (⊎-elim (Memᴰ·append-left ws) (Memᴰ·append-right A))
+    (λ m. List·Memᴰ·append-cases A m)
 
 not-about : (n : ℕ) (A : List ℕ) → about n A ≡ false → Fresh n A
 unfolding about

@@ -31,9 +31,9 @@ unfoldable pub about : ℕ → List ℕ → Bool
 about n [] = false
 about n (v ∷ l) = eqb (tailOf v) n || about n l
 
--- The word w is in Γ: one of the net's words ws, or of the added words A.
+-- The word w is in Γ: one of the added words A, or of the net's words ws.
 abbrev pub given : List ℕ → List ℕ → ℕ → Bool
-given ws A w = standsIn w ws || standsIn w A
+given ws A w = standsIn w A || standsIn w ws
 
 -- The rule on the left with this number, from 4 on.
 abbrev pub ruleAt : ℕ → LeftRule
@@ -86,7 +86,7 @@ premises l b f A g i j t Nothing = Upto (suc i) j t
 premises l b f A g i j t (One w h) = f (w ∷ A) h (suc i) j t
 premises l b f A g i j t (Two h w) = mainPremise l b f (w ∷ A) g (suc i) j (f A h (suc i) (suc j) t)
 
--- The walk over a sequent, where as many may still stand on a branch as the first number says.
+-- The walk over a sequent, where as many, it and those above it, may still stand one above another as the first number says.
 unfoldable pub sequent : ℕ → ℕ → List ℕ → List ℕ → ℕ → ℕ → Walk
 sequent o n ws l b zero A g i j t = cond (leb ((length l - b) / 3) i) Cut (Fault i)
 sequent o n ws l b (suc d) A g i j t =

@@ -93,7 +93,7 @@ kindFile n ws x y s xs ys = chainFile 1 ((2 + signNumber s) ∷ n ∷ word x y s
 unfoldable pub ourFile : ℕ → ℕ → List ℕ → ℕ → ℕ → Sign → List ℕ → List ℕ → List ℕ
 ourFile o n ws x y s xs ys = cond (ltb x o) (objectFile ws x xs ys) (kindFile n ws x y s xs ys)
 
--- The sequents on its longest branch, where the path has so many links.
+-- The most sequents that stand one above another in it, where the path has so many links.
 unfoldable pub ourDepth : ℕ → ℕ → ℕ → ℕ
 ourDepth o x links = cond (ltb x o) links (links + 2)
 

@@ -76,8 +76,8 @@ module _ (l : List ℕ) (w i : ℕ) where
   about-end h = let e : i ≡ 0 = omega arith in rw e
 
 -- One of the two lists has the word.
-pub given-listed : (ws A : List ℕ) (w : ℕ) (r : Bool) → r ≡ standsIn w ws → r ≡ true → true ≡ given ws A w
-given-listed ws A w r e f = rw (sym e ∙ f)
+pub given-added : (ws A : List ℕ) (w : ℕ) (r : Bool) → r ≡ standsIn w A → r ≡ true → true ≡ given ws A w
+given-added ws A w r e f = rw (sym e ∙ f)
 
-pub given-added : (ws A : List ℕ) (w : ℕ) (r q : Bool) → r ≡ standsIn w ws → r ≡ false → q ≡ standsIn w A → q ≡ given ws A w
-given-added ws A w r q e f g = rw (sym e ∙ f, g)
+pub given-listed : (ws A : List ℕ) (w : ℕ) (r q : Bool) → r ≡ standsIn w A → r ≡ false → q ≡ standsIn w ws → q ≡ given ws A w
+given-listed ws A w r q e f g = rw (sym e ∙ f, g)

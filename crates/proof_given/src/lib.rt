@@ -57,16 +57,17 @@ pub fn is_about(added: &[u32], count: usize, n: usize) -> bool
     false
 }
 
-// Whether a word may be used: it is a chosen one of the net, or was added.
+// Whether a word may be used: it was added, or is a chosen one of the net. The added ones come first: they are few, and the last of them is the
+// axiom wherever a proof of ours has one beside a link.
 pub fn is_given(words: &[u32], set: u32, added: &[u32], count: usize, word: u32) -> bool
     requires entered { ⌜ Entered (now words) ⌝ }
     requires room { ⌜ count ≤ length (now added) ⌝ }
     ensures { λ r. ⌜ r ≡ given (chosen set (now (words .entry))) (held (now (added .entry)) count) word ⌝ }
 {
-    if is_listed(words, set, word) {
+    if is_added(added, count, word) {
         return true;
     }
-    is_added(added, count, word)
+    is_listed(words, set, word)
 }
 
 // Whether the contents, in front of place `base`, have a value at a place.

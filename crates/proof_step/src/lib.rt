@@ -1,4 +1,4 @@
-// The steps of our proof that use links, the last link first.
+// Parts of our proof's list: the steps that use links, the last link first; their axioms, the first link first; the contents of the branches.
 ghost use mathlib.Core.Path.{_≡_};
 ghost use Prim.Native.Nat.{ℕ, _+_, _-_, _*_, _/_, _≤_, _<_};
 ghost use lib.ListN.{length, set};

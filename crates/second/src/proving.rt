@@ -31,7 +31,7 @@ pub fn shape_of(o: u32, x: u32, links: u16) -> Shape {
     }
 }
 
-// The sequents on its longest branch.
+// The most sequents one above another in it.
 pub fn depth_of(shape: Shape) -> usize {
     shape.right % 2 + shape.lefts % 65536 + 1
 }

@@ -13,7 +13,7 @@ use crate::reply::refused;
 // What is given where no one step is at fault.
 const NO_STEP: u32 = 4294967295;
 
-// The most sequents on a branch.
+// The most sequents one above another.
 const DEEPEST: usize = 255;
 
 // Whether the walk goes on, has shown everything, found a step at fault, or found no step where one has to be.

@@ -21,7 +21,7 @@ proofSize (ax i m) = 1
 proofSize (right h f d) = suc (proofSize d)
 proofSize (left r a p q i hp hq m d e) = suc (proofSize d + proofSize e)
 
--- The number of sequents on the longest branch.
+-- The most sequents that stand one above another, left and main premises counted alike.
 unfoldable pub proofDepth : {o k : ℕ} {Γ : List ℕ} {x y : ℕ} {s : Sign} → Proof o k Γ x y s → ℕ
 proofDepth (ax i m) = 1
 proofDepth (right h f d) = suc (proofDepth d)
@@ -52,7 +52,7 @@ proofFile d =
     let b = suc (2 * n) in
     n ∷ b ∷ proofSize d ∷ (proofBranches b 0 d ++ proofSteps d)
 
--- The most sequents on a branch, and the most numbers in a list, whose places are u32.
+-- The most sequents one above another, and the most numbers in a list, whose places are u32.
 abbrev pub depthLimit : ℕ
 depthLimit = 255
 
@@ -98,9 +98,9 @@ pub record LeftStep (o k : ℕ) (Γ : List ℕ) (r a w : ℕ) : Type 0 where
 abbrev pub ByRule : ℕ → ℕ → List ℕ → ℕ → ℕ → Sign → ℕ → ℕ → ℕ → Type 0
 ByRule o k Γ x y s r a w = AxiomStep o k Γ x y s r a w ⊎ (RightStep o k Γ x y s r a w ⊎ LeftStep o k Γ r a w)
 
--- The list begins like the steps of a proof of Γ ⊢ x → y, or x ↛ y, with at most d sequents on a branch, up to step i, which is the first at fault.
+-- The list begins like the steps of a proof of Γ ⊢ x → y, or x ↛ y, with at most d sequents one above another, up to step i, which is the first at fault.
 pub data Faulty (o k : ℕ) : ℕ → List ℕ → ℕ → ℕ → Sign → List ℕ → ℕ → Type 0 where
-  -- the step's sequent is one too many on its branch
+  -- the step's sequent is one too many on the way up to it
   deep : {Γ : List ℕ} {x y : ℕ} {s : Sign} {r a w : ℕ} {l : List ℕ} → Faulty o k zero Γ x y s (r ∷ a ∷ w ∷ l) 0
   -- the step is by no rule
   broken : {d : ℕ} {Γ : List ℕ} {x y : ℕ} {s : Sign} {r a w : ℕ} {l : List ℕ} → (ByRule o k Γ x y s r a w → ⊥) → Faulty o k (suc d) Γ x y s (r ∷ a ∷ w ∷ l) 0

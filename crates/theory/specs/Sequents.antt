@@ -52,7 +52,8 @@ givesSign ↛⊢ = isnt
 givesSign ↛⊢′ = isnt
 
 -- The proofs of Γ ⊢ x → y, or x ↛ y. A word of Γ may be used any number of times. A link between kinds is no axiom, and an object's link is not used by a
--- rule on the left.
+-- rule on the left. That the heads p of `ax` and q of `right` are kinds is not asked here: theorems about what a proof
+-- shows ask it of the statement.
 pub data Proof (o k : ℕ) : List ℕ → ℕ → ℕ → Sign → Type 0 where
   -- Γ ⊢ a → p if a → p is in Γ; the same for ↛
   ax : {Γ : List ℕ} {a p : ℕ} {s : Sign} → Individual o k a → List·Memᴰ (word a p s) Γ → Proof o k Γ a p s
