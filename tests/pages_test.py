@@ -169,10 +169,10 @@ def links(wrong):
 def names(wrong):
     """Any name in backticks that looks like one of the repository's: with a capital inside, a hyphen, an underscore or a slash."""
     tree = [p for folder in ("crates", "tests", "tools", "bench", "include", "examples", "nets") for p in (ROOT / folder).rglob("*") if p.is_file()]
-    tree += [ROOT / "crates.txt", ROOT / "test", ROOT / "ask"]
+    tree += [ROOT / "crates.txt", ROOT / "test", ROOT / "ask", ROOT / "fleet"]
     known = {name for p in tree for name in (p.name, p.stem, p.parent.name)}
     for path in tree:
-        if path.suffix not in {".net", ".pyc"} and path != pathlib.Path(__file__):
+        if path.suffix not in {".net", ".pyc"} and path.name != "stdin" and path != pathlib.Path(__file__):
             known |= set(re.findall(r"[^\s(){}\[\].,;:«»`|<>&*=\"']+", text(path)))
     paths = "\n".join(str(p.relative_to(ROOT)) for p in [*tree, *PAGES])
     for page in PAGES:

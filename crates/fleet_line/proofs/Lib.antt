@@ -1,0 +1,4 @@
+pub mod Wides
+pub mod Left
+pub mod Lines
+pub mod Readings

@@ -1,0 +1,4 @@
+pub mod Sums
+pub mod Fleet
+pub mod Turns
+pub mod Division
