@@ -108,8 +108,29 @@ extern "C" {
 #define STRUMELKA_RULE_LEFT_IS_NOT 6u      /* "is not": shows that it is of the tail, adds that it is not of the head */
 #define STRUMELKA_RULE_LEFT_IS_NOT_BACK 7u /* "is not": shows that it is of the head, adds that it is not of the tail */
 
-/* The numbers. Where several apply, the one that stands first here is given: 15 comes before 3, 10 before 5, and 11 before
- * 8. (Number 9 is about net files, which no function here reads.) */
+/* The marker unit has eight markers, 0 to 7. Marker i is bit i of a node's byte of marks: T, F and U of a scan are the first
+ * three. A set of markers has bit i for marker i. */
+#define STRUMELKA_MARKER_T 0u
+#define STRUMELKA_MARKER_F 1u
+#define STRUMELKA_MARKER_U 2u
+#define STRUMELKA_ALL_MARKERS 255u
+
+/* Which end of a link a command tests, and which it marks. */
+#define STRUMELKA_TAIL_TO_HEAD 0u
+#define STRUMELKA_HEAD_TO_TAIL 1u
+
+/* The commands of the unit, a word each: take the markers of a set from every node; put a marker at a node; put a marker at
+ * the far end of every link of the sign that has the tested marker at its near end; begin a loop; end it. Each part has to be
+ * in its range, else it runs into the next one. */
+#define STRUMELKA_COMMAND_CLEAR(markers) ((uint32_t)(markers))
+#define STRUMELKA_COMMAND_SET(marker, node) (16777216u + (uint32_t)(marker) * 65536u + (uint32_t)(node))
+#define STRUMELKA_COMMAND_LINK(tested, marker, end, sign) \
+    (33554432u + (uint32_t)(tested) * 65536u + (uint32_t)(marker) * 256u + (uint32_t)(end) * 2u + (uint32_t)(sign))
+#define STRUMELKA_COMMAND_LOOP 50331648u
+#define STRUMELKA_COMMAND_END 67108864u
+
+/* The numbers. Where several apply, the one that stands first here is given: 15 comes before 3, 10 before 5, 16 before 6, and
+ * 11 before 8. (Number 9 is about net files, which no function here reads.) */
 #define STRUMELKA_NUMBER_DONE 0u
 #define STRUMELKA_NUMBER_TOO_MANY_NODES 1u
 #define STRUMELKA_NUMBER_TOO_MANY_WORDS 2u
@@ -119,6 +140,7 @@ extern "C" {
 #define STRUMELKA_NUMBER_BAD_SCREENFUL 10u
 #define STRUMELKA_NUMBER_SHORT_BUFFER 5u
 #define STRUMELKA_NUMBER_BAD_TABLE 13u
+#define STRUMELKA_NUMBER_BAD_PROGRAM 16u
 #define STRUMELKA_NUMBER_BUDGET_SPENT 6u
 #define STRUMELKA_NUMBER_NOTHING_FOUND 7u
 #define STRUMELKA_NUMBER_TOO_DEEP 11u
@@ -347,6 +369,22 @@ struct strumelka_answer strumelka_proof_check(
     uint32_t o, uint32_t k, const uint32_t *words, size_t words_len, uint32_t set,
     uint32_t x, uint32_t y, uint32_t sign,
     const uint32_t *list, size_t list_len);
+
+/* The marker unit: runs the commands of program over the chosen links, at most budget of them. The first o + k bytes of marks
+ * are the markers before and after, all eight bits of them: what the program does not clear counts. A link command tests all
+ * links by the markers at its beginning. A loop is run again after every pass of it in which a set or link command put a marker
+ * where it was not; its beginning and its end count as no commands. A loop that clears what it sets may go on for ever, and
+ * is stopped by the budget.
+ *   0            the program ended; first = the commands run
+ *   1, 2, 15, 3  as in strumelka_check_net
+ *   5            marks_len is below STRUMELKA_MARKS(o, k); marks unchanged
+ *   16           a command is at fault: it is none of STRUMELKA_COMMAND_.., it clears no marker or more than eight, its marker
+ *                is above 7 or its node is no node, or it begins a loop inside a loop, begins one that has no end after it or
+ *                ends one where none is begun; first = the first such place in program; marks unchanged
+ *   6            the program needs more commands than budget; first = budget; marks after exactly that many commands */
+struct strumelka_answer strumelka_unit(
+    uint32_t o, uint32_t k, const uint32_t *words, size_t words_len, uint32_t set,
+    const uint32_t *program, size_t program_len, uint32_t budget, uint8_t *marks, size_t marks_len);
 
 #ifdef __cplusplus
 }

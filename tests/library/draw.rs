@@ -7,6 +7,7 @@ use crate::fields::Field;
 use crate::nets::{draw_illegal, draw_origin, plain, word, Net, ALL_ORIGINS};
 use crate::operations::Operation;
 use crate::paths::draw_path;
+use crate::programs::draw_program;
 use crate::proofs::draw_proof;
 use crate::random::Random;
 
@@ -25,6 +26,9 @@ pub fn draw_case<'a>(
     }
     if operation.fields.contains(&Field::Proof) {
         draw_proof(random, net, operations, &mut case);
+    }
+    if operation.fields.contains(&Field::Program) {
+        draw_program(random, net, &mut case);
     }
     if operation.fields.contains(&Field::Links) && net.words.len() < 20 && random.chance(25) {
         case.set(Field::Links, completed(net, operations));
@@ -91,6 +95,8 @@ fn draw_field(random: &mut Random, net: &Net, field: Field) -> Vec<u64> {
             spoilt(random, values)
         }
         Field::Answers | Field::List | Field::Reason | Field::Path | Field::Proof => Vec::new(),
+        Field::Program => Vec::new(),
+        Field::Commands => vec![0],
         Field::File => draw_file(random, net),
         Field::Byte => vec![random.below(256) as u64],
     }

@@ -29,6 +29,8 @@ pub enum Field {
     Reason,
     Path,
     Proof,
+    Program,
+    Commands,
     File,
     Byte,
 }
@@ -59,7 +61,7 @@ const fn shape(name: &'static str, field: Field, width: usize, most: usize, lent
     }
 }
 
-static SHAPES: [Shape; 29] = [
+static SHAPES: [Shape; 31] = [
     number("o", Field::Objects),
     number("k", Field::Kinds),
     shape("words", Field::Words, 4, 16_384, false),
@@ -87,6 +89,8 @@ static SHAPES: [Shape; 29] = [
     shape("reason", Field::Reason, 2, 4_096, true),
     shape("path", Field::Path, 2, 4_096, false),
     shape("proof", Field::Proof, 4, 16_384, false),
+    shape("program", Field::Program, 4, 16_384, false),
+    number("commands", Field::Commands),
     shape("file", Field::File, 1, 32_769, false),
     number("byte", Field::Byte),
 ];

@@ -1,5 +1,5 @@
 //! Calls with more words than a case can have: the largest list that is allowed, and one word more. And the largest table of a valuation,
-//! the largest rows, and the deepest proofs.
+//! the largest rows, the deepest proofs, and scans of large nets by the marker unit.
 
 use crate::answer::Answer;
 use crate::call::{run, Outcome};
@@ -7,9 +7,11 @@ use crate::case::{widened, Case};
 use crate::draw::draw_case;
 use crate::fields::Field;
 use crate::nets::{
-    draw_origin, plain, random_net, row_size, word, Net, ALL_ORIGINS, NODE_LIMIT, WORD_LIMIT,
+    chain_net, draw_origin, plain, random_net, row_size, word, Net, ALL_ORIGINS, NODE_LIMIT,
+    WORD_LIMIT,
 };
 use crate::operations::{Effort, Operation};
+use crate::programs::merged_scan;
 use crate::random::Random;
 use crate::sequents::{listed, Step};
 use crate::tally::Tally;
@@ -82,7 +84,8 @@ pub fn calls_at_limit(
     mend_clashing(operations, tally)?;
     fill_largest_table(operations, tally)?;
     complete_longest_chain(operations, tally)?;
-    prove_deepest(operations, tally)
+    prove_deepest(operations, tally)?;
+    scan_by_program(&mut random, operations, tally)
 }
 
 /// As many words as are allowed, none of which can be kept: what is kept is read again for every word, so that others would take
@@ -304,6 +307,46 @@ fn prove_deepest(operations: &[Operation], tally: &mut Tally) -> Result<(), Stri
                 false => Answer::new(0, 0, 0),
             };
             hold(&case, &Outcome::unchanged(&case, answer), tally)?;
+        }
+    }
+    Ok(())
+}
+
+/// The written program on nets of as many nodes as are allowed: the marks of the scan, and three commands and five for each of its rounds. With a command less
+/// the budget is spent, and the last command sets nothing.
+fn scan_by_program(
+    random: &mut Random,
+    operations: &[Operation],
+    tally: &mut Tally,
+) -> Result<(), String> {
+    let nets = [
+        random_net(random, 24, 1000, 16_000, 20),
+        chain_net(random, 0, NODE_LIMIT),
+        chain_net(random, 1, NODE_LIMIT - 1),
+    ];
+    for net in nets {
+        let start = random.below(NODE_LIMIT) as u32;
+        let fill = |field, commands| match field {
+            Field::Objects => widened(&[net.o]),
+            Field::Kinds => widened(&[net.k]),
+            Field::Words => widened(&net.words),
+            Field::Set => widened(&[ALL_ORIGINS]),
+            Field::Node => widened(&[start]),
+            Field::Budget => widened(&[u32::MAX]),
+            Field::Program => widened(&merged_scan(start)),
+            Field::Commands => widened(&[commands]),
+            _ => vec![0xa5; NODE_LIMIT + 1],
+        };
+        let scan = Case::filled(operations, "scan", |field| fill(field, 0));
+        let scanned = run(&scan, 0)?;
+        let count = 3 + 5 * scanned.answer.first;
+        for (commands, number) in [(u32::MAX, 0), (count, 0), (count - 1, 6)] {
+            let case = Case::filled(operations, "unit", |field| fill(field, commands));
+            let expected = Outcome {
+                answer: Answer::new(number, count.min(commands), 0),
+                lists: scanned.lists.clone(),
+            };
+            hold(&case, &expected, tally)?;
         }
     }
     Ok(())

@@ -13,6 +13,13 @@ _Static_assert((STRUMELKA_FROM(0) | STRUMELKA_FROM(1) | STRUMELKA_FROM(2) | STRU
 _Static_assert(STRUMELKA_PROOF_LIST(0, 1) == 17u && STRUMELKA_PROOF_LIST(9, 127) == 2033u, "proofs of few kinds");
 _Static_assert(STRUMELKA_PROOF_LIST(0, 128) == 2033u && STRUMELKA_PROOF_LIST(1, 128) == 2038u, "proofs of many kinds");
 
+/* The commands of the merged scan. */
+_Static_assert(STRUMELKA_COMMAND_CLEAR(STRUMELKA_ALL_MARKERS) == 255u && STRUMELKA_COMMAND_SET(STRUMELKA_MARKER_U, 5) == 16908293u, "before the loop");
+_Static_assert(STRUMELKA_COMMAND_LOOP == 50331648u && STRUMELKA_COMMAND_END == 67108864u, "the loop");
+_Static_assert(STRUMELKA_COMMAND_LINK(STRUMELKA_MARKER_T, STRUMELKA_MARKER_T, STRUMELKA_HEAD_TO_TAIL, STRUMELKA_IS) == 33554434u, "its first command");
+_Static_assert(STRUMELKA_COMMAND_LINK(STRUMELKA_MARKER_U, STRUMELKA_MARKER_F, STRUMELKA_TAIL_TO_HEAD, STRUMELKA_IS_NOT) == 33685761u, "its fourth");
+_Static_assert((1u << STRUMELKA_MARKER_T) == STRUMELKA_MARK_T && (1u << STRUMELKA_MARKER_U) == STRUMELKA_MARK_U, "markers and marks");
+
 /* A field of a case as it is handed over: a number, or a list and its length. */
 struct field {
     uint32_t number;
@@ -78,7 +85,9 @@ struct operation {
       NET, NUMBER(4), NUMBER(5), NUMBER(6), HALVES(7), WORDS(8))                                \
     _(proof_check, "o k words set node kind sign proof",                                        \
       "0 1 2 15 3 4 12=0 12=4294967295 12", ONCE,                                               \
-      NET, NUMBER(4), NUMBER(5), NUMBER(6), WORDS(7))
+      NET, NUMBER(4), NUMBER(5), NUMBER(6), WORDS(7))                                           \
+    _(unit, "o k words set program commands marks", "0 0=0 1 2 15 3 5 16 16=0 6 6=0", ONCE,     \
+      NET, WORDS(4), NUMBER(5), BYTES(6))
 
 static void take(struct strumelka_answer given, uint32_t answer[3])
 {

@@ -1,11 +1,12 @@
 //! Rules (3.1) to (3.5) as they stand in the request, closed over a small net by trying every rule on every pair, the rules of the report's
-//! section 4 and the conditions of its section 6. What a call answers is held to them by code that the kit did not compile.
+//! section 4, the conditions of its section 6 and the marker unit. What a call answers is held to them by code that the kit did not compile.
 
 use std::collections::BTreeSet;
 
 use crate::call::Outcome;
 use crate::case::{widened, Case};
 use crate::fields::Field;
+use crate::markers::simulated;
 use crate::nets::{head_of, is_chosen, plain, row_size, tail_of, word, ALL_ORIGINS};
 use crate::sequents::verdict;
 
@@ -122,12 +123,13 @@ impl Supported {
     }
 }
 
-/// Holds what a call that was done on a small net, or found a proof at fault, answered to the rules, where they decide it. Whether they do.
+/// Holds what a call that was done on a small net, spent its budget or found a proof or a program at fault, answered to the rules, where they decide it.
+/// Whether they do.
 pub fn held_to_rules(case: &Case, found: &Outcome) -> Result<bool, String> {
     let number = |field| case.values_of(field).first().map_or(0, |&it| it as usize);
     let o = number(Field::Objects);
     let nodes = o + number(Field::Kinds);
-    if ![0, 12].contains(&found.answer.number) || nodes > SMALL_NET {
+    if ![0, 6, 12, 16].contains(&found.answer.number) || nodes > SMALL_NET {
         return Ok(false);
     }
     let origins = number(Field::Set) as u32;
@@ -203,6 +205,14 @@ pub fn held_to_rules(case: &Case, found: &Outcome) -> Result<bool, String> {
             };
             verdict(o, nodes, &chosen(&words, origins), goal, &list) == answered
                 && (answered.0 != 0 || net.set.contains(&goal))
+        }
+        "unit" => {
+            let (program, marks) = (case.words_of(Field::Program), case.values_of(Field::Marks));
+            let links = chosen(&words, origins);
+            let budget = number(Field::Commands) as u32;
+            let ran = simulated(nodes, &links, &program, budget, marks);
+            let Outcome { answer, lists } = found;
+            ran == (answer.number, answer.first, lists[0].clone())
         }
         _ => return Ok(false),
     };

@@ -55,6 +55,20 @@ static uint16_t reason[16];
 enum { DEPTH = STRUMELKA_SEQUENT_LIMIT, BRANCHES = DEPTH, STEPS = 2 * DEPTH - 1, FIRST_STEP = 1 + 2 * BRANCHES };
 static uint32_t proof[FIRST_STEP + 3 * STEPS];
 
+/* The merged scan from 0. */
+static uint32_t program[] = {
+    STRUMELKA_COMMAND_CLEAR(STRUMELKA_ALL_MARKERS),
+    STRUMELKA_COMMAND_SET(STRUMELKA_MARKER_T, 0),
+    STRUMELKA_COMMAND_SET(STRUMELKA_MARKER_U, 0),
+    STRUMELKA_COMMAND_LOOP,
+    STRUMELKA_COMMAND_LINK(STRUMELKA_MARKER_T, STRUMELKA_MARKER_T, STRUMELKA_HEAD_TO_TAIL, STRUMELKA_IS),
+    STRUMELKA_COMMAND_LINK(STRUMELKA_MARKER_U, STRUMELKA_MARKER_U, STRUMELKA_TAIL_TO_HEAD, STRUMELKA_IS),
+    STRUMELKA_COMMAND_LINK(STRUMELKA_MARKER_F, STRUMELKA_MARKER_F, STRUMELKA_HEAD_TO_TAIL, STRUMELKA_IS),
+    STRUMELKA_COMMAND_LINK(STRUMELKA_MARKER_U, STRUMELKA_MARKER_F, STRUMELKA_TAIL_TO_HEAD, STRUMELKA_IS_NOT),
+    STRUMELKA_COMMAND_LINK(STRUMELKA_MARKER_U, STRUMELKA_MARKER_F, STRUMELKA_HEAD_TO_TAIL, STRUMELKA_IS_NOT),
+    STRUMELKA_COMMAND_END,
+};
+
 /* What is handed over for each kind of field. */
 static const struct {
     const char *name;
@@ -79,6 +93,8 @@ static const struct {
     {"reason", {0, reason, COUNT(reason)}},
     {"path", {0, path, COUNT(path)}},
     {"proof", {0, proof, COUNT(proof)}},
+    {"program", {0, program, COUNT(program)}},
+    {"commands", {UINT32_MAX, NULL, 0}},
     {"pairs", {0, pairs, COUNT(pairs)}},
     {"answers", {0, answers, COUNT(answers)}},
     {"links", {0, links, COUNT(links)}},

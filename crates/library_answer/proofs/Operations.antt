@@ -28,6 +28,7 @@ use Rattle.reason.specs.Table.{ReasonOutcome, reasonedReply}
 use Rattle.proof.specs.Table.{ProofOutcome, provedReply}
 use Rattle.valuation.specs.Table.{ValuationOutcome, filledReply}
 use Rattle.rows_completion.specs.Table.{RowsOutcome, rowsOutcome, rowsClauses, rowsDone, completedByRows}
+use Rattle.unit.specs.Table.{UnitOutcome, simulatedReply}
 use Rattle.library_reply.specs.Fits.{Fits}
 use Rattle.library_reply.proofs.Fitting.{either, fits, bare, table-fits}
 
@@ -58,6 +59,10 @@ reasonGives s = reasonedReply (s .answer)
 -- The reply of what a proof leaves.
 abbrev pub proofGives : ProofOutcome → Reply
 proofGives s = provedReply (s .answer)
+
+-- The reply of what a run of the unit leaves.
+abbrev pub unitGives : UnitOutcome → Reply
+unitGives s = simulatedReply (s .answer)
 
 -- The reply of what a valuation leaves.
 abbrev pub valuationGives : ValuationOutcome → Reply

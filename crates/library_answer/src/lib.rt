@@ -1,5 +1,5 @@
 // The answers of scan, question, screenful of questions, clash test, completion, compaction, mending, reason, reason check, proof, proof check,
-// valuation and its test, and question of rows, each as a reply. That of a completion by rows is a completion's.
+// valuation and its test, question of rows and marker unit, each as a reply. That of a completion by rows is a completion's.
 ghost use mathlib.Core.Path.{_≡_};
 ghost use Rattle.scan.specs.Table.{scanReply};
 ghost use Rattle.question.specs.Table.{askedReply};
@@ -15,6 +15,7 @@ ghost use Rattle.proof_check.specs.Table.{judgedReply};
 ghost use Rattle.valuation.specs.Table.{filledReply};
 ghost use Rattle.satisfies.specs.Table.{testedReply};
 ghost use Rattle.rows_answer.specs.Table.{answeredReply};
+ghost use Rattle.unit.specs.Table.{simulatedReply};
 ghost use Rattle.library_reply.specs.Fits.{Fits};
 use clash::Clashed;
 use compact::CompactedList;
@@ -33,6 +34,7 @@ use reason_check::Verdict;
 use rows_answer::Answered;
 use satisfies::Tested;
 use scan::Scanned;
+use unit::Simulated;
 use valuation::Filled;
 
 // The reply of a scan.
@@ -189,5 +191,17 @@ pub fn answered_given(answered: Answered) -> Reply
     match answered {
         Answered::Done(answer) => reply_of(0, answer_number(answer) as u32, 0),
         Answered::Refused(refusal) => refusal_given(refusal),
+    }
+}
+
+// The reply of a run of the marker unit.
+pub fn simulated_given(simulated: Simulated) -> Reply
+    ensures { λ r. ⌜ r ≡ simulatedReply simulated ⌝ }
+{
+    match simulated {
+        Simulated::Done(count) => reply_of(0, count, 0),
+        Simulated::Spent(count) => reply_of(6, count, 0),
+        Simulated::Faulty(place) => reply_of(16, place, 0),
+        Simulated::Refused(refusal) => refusal_given(refusal),
     }
 }

@@ -28,6 +28,7 @@ use Rattle.reason_check.specs.Table.{checkTable, checkDone, verdict}
 use Rattle.reason_check.specs.declared.Verdict.the-variants.{Holds, Fails}
 use Rattle.proof.specs.Table.{proofTable, proofDone, proved}
 use Rattle.proof_check.specs.Table.{judgedTable, judgedDone, judged}
+use Rattle.unit.specs.Table.{unitTable, unitDone, simulated}
 use Rattle.theory.specs.Valuations.{satisfies}
 use Rattle.valuation.specs.Values.{ownValues}
 use Rattle.valuation.specs.Table.{valuationTable, valuationDone, filledBy}
@@ -43,7 +44,7 @@ use Rattle.question.specs.Table.{questionTable, questionDone}
 use Rattle.questions.specs.Table.{questionsTable, questionsDone, questionedAll}
 use Rattle.netfile.specs.Table.{readFrom, fileTable, fileDone}
 use Rattle.netfile.proofs.Called.{file-called}
-use Rattle.promises.specs.Numbers.{wordNumber, checkedNumber, scanNumber, questionNumber, clashNumber, completionNumber, reasonNumber, verdictNumber, questionsNumber, compactionNumber, mendingNumber, valuationNumber, satisfiesNumber, rowsNumber, answerInRowsNumber, proofNumber, proofCheckNumber, fileNumber}
+use Rattle.promises.specs.Numbers.{wordNumber, checkedNumber, scanNumber, questionNumber, clashNumber, completionNumber, reasonNumber, verdictNumber, questionsNumber, compactionNumber, mendingNumber, valuationNumber, satisfiesNumber, rowsNumber, answerInRowsNumber, proofNumber, proofCheckNumber, unitNumber, fileNumber}
 use Rattle.promises.specs.Engines.{ours}
 use Rattle.promises.specs.Demand1.{Demand1}
 use Rattle.promises.proofs.Deciding.{obeys}
@@ -146,6 +147,12 @@ module _ (o k : ℕ) (ws : List ℕ) (set : ℕ) where
       obeys proofCheckNumber _ _ (record { numbered = (refl, (refl, (refl, (refl, (refl, (refl, tt)))))); once = refl; nonzero = refl; zero = λ h. refl }) _
       refl
 
+  -- The marker unit: numbers 1, 2, 15, 3, 5, 16 and 6, or 0.
+  pub unit-obeys : (program : List ℕ) (budget : ℕ) (m : List ℕ) → Obeys unitNumber (unitTable o k ws set program budget m) (unitDone (chosen set ws) program budget m (o + k)) (simulated o k ws set program budget m)
+  unit-obeys program budget m =
+      obeys unitNumber _ _ (record { numbered = (refl, (refl, (refl, (refl, (refl, (refl, (refl, tt))))))); once = refl; nonzero = refl; zero = λ h. refl }) _
+      refl
+
 -- The compaction: numbers 1 to 3 and 5, or 0.
 pub compaction-obeys : (o k : ℕ) (ws m : List ℕ) → Obeys compactionNumber (compactionTable o k ws m) (compactionDone (compacted o k ws) ws m (o + k)) (compactedBy o k ws m)
 compaction-obeys o k ws m =
@@ -198,4 +205,5 @@ demand-1 = record {
   answerInRows = answer-in-rows-obeys;
   proof = proof-obeys;
   proofCheck = proof-check-obeys;
+  unit = unit-obeys;
 }

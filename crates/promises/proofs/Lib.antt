@@ -17,13 +17,17 @@ pub mod PlainLists
 pub mod PlainValued
 pub mod PlainRows
 pub mod PlainProofs
+pub mod PlainUnit
 pub mod Valuing
 pub mod ByRows
 pub mod Proving
+pub mod Simulating
 pub mod Reordered
 pub mod ReorderedValues
 pub mod ReorderedRows
 pub mod ReorderedProofs
+pub mod UnitOrder
+pub mod ReorderedUnit
 pub mod NetAnswers
 pub mod Demand3
 pub mod FromKind

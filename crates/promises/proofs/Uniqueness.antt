@@ -30,6 +30,8 @@ use Rattle.proof.specs.Table.{ProofOutcome, proofOutcome, proved}
 use Rattle.proof.specs.declared.Proved.{Proved}
 use Rattle.proof_check.specs.Table.{judged}
 use Rattle.proof_check.specs.declared.Judged.{Judged}
+use Rattle.unit.specs.Table.{UnitOutcome, unitOutcome, simulated}
+use Rattle.unit.specs.declared.Simulated.{Simulated}
 use Rattle.valuation.specs.Table.{ValuationOutcome, valuationOutcome, filledBy}
 use Rattle.valuation.specs.declared.Filled.{Filled}
 use Rattle.satisfies.specs.Table.{testedBy}
@@ -60,6 +62,13 @@ module _ (o k : ℕ) (ws : List ℕ) (set : ℕ) where
   pub scan-unique : (x budget : ℕ) (marks : List ℕ) (r q : Scanned) (m l : List ℕ)
       → scanOutcome r m ≡ scanned o k ws set x budget marks → scanOutcome q l ≡ scanned o k ws set x budget marks → (r ≡ q) × (m ≡ l)
   scan-unique x budget marks r q m l e f = scan-parts r q m l (both-are (scanOutcome r m) (scanOutcome q l) e f)
+
+  -- The marker unit: m and l the marks left.
+  pub unit-unique : (program : List ℕ) (budget : ℕ) (marks : List ℕ) (r q : Simulated) (m l : List ℕ)
+      → unitOutcome r m ≡ simulated o k ws set program budget marks → unitOutcome q l ≡ simulated o k ws set program budget marks → (r ≡ q) × (m ≡ l)
+  unit-unique program budget marks r q m l e f =
+      let p = both-are (unitOutcome r m) (unitOutcome q l) e f in
+      (ap (λ (s : UnitOutcome). s .answer) p, ap (λ (s : UnitOutcome). s .marks) p)
 
   -- The question.
   pub question-unique : (x y : ℕ) (marks : List ℕ) (r q : Asked) (m l : List ℕ)

@@ -21,13 +21,14 @@ use Rattle.reason.specs.Table.{reasonTable, reasonDone}
 use Rattle.reason_check.specs.Table.{checkTable, checkDone}
 use Rattle.proof.specs.Table.{proofTable, proofDone}
 use Rattle.proof_check.specs.Table.{judgedTable, judgedDone}
+use Rattle.unit.specs.Table.{unitTable, unitDone}
 use Rattle.valuation.specs.Values.{ownValues}
 use Rattle.valuation.specs.Table.{valuationTable, valuationDone}
 use Rattle.satisfies.specs.Table.{satisfiesTable, satisfiesDone}
 use Rattle.rows_completion.specs.Table.{rowsTable, rowsDone}
 use Rattle.rows_answer.specs.Table.{answerInRows, answerTable}
 use Rattle.rows_answer.specs.declared.Answered.the-variants as answered
-use Rattle.promises.specs.Numbers.{wordNumber, checkedNumber, scanNumber, questionNumber, clashNumber, completionNumber, reasonNumber, verdictNumber, questionsNumber, compactionNumber, mendingNumber, valuationNumber, satisfiesNumber, rowsNumber, answerInRowsNumber, proofNumber, proofCheckNumber}
+use Rattle.promises.specs.Numbers.{wordNumber, checkedNumber, scanNumber, questionNumber, clashNumber, completionNumber, reasonNumber, verdictNumber, questionsNumber, compactionNumber, mendingNumber, valuationNumber, satisfiesNumber, rowsNumber, answerInRowsNumber, proofNumber, proofCheckNumber, unitNumber}
 use Rattle.promises.specs.Engines.{Engine}
 
 pub record Demand1 (e : Engine) : Type 0 where
@@ -61,3 +62,5 @@ pub record Demand1 (e : Engine) : Type 0 where
       → Obeys proofNumber (proofTable o k ws set x y sign d l) (proofDone o (chosen set ws) x y sign d l (o + k)) (e .proof o k ws set x y sign d l)
   pub proofCheck : (o k : ℕ) (ws : List ℕ) (set x y sign : ℕ) (l : List ℕ)
       → Obeys proofCheckNumber (judgedTable o k ws set x y sign l) judgedDone (e .proofCheck o k ws set x y sign l)
+  pub unit : (o k : ℕ) (ws : List ℕ) (set : ℕ) (program : List ℕ) (budget : ℕ) (m : List ℕ)
+      → Obeys unitNumber (unitTable o k ws set program budget m) (unitDone (chosen set ws) program budget m (o + k)) (e .unit o k ws set program budget m)

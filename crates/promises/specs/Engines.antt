@@ -27,6 +27,7 @@ use Rattle.reason_check.specs.declared.Verdict.{Verdict}
 use Rattle.proof.specs.Table.{ProofOutcome, proved}
 use Rattle.proof_check.specs.Table.{judged}
 use Rattle.proof_check.specs.declared.Judged.{Judged}
+use Rattle.unit.specs.Table.{UnitOutcome, simulated}
 use Rattle.valuation.specs.Table.{ValuationOutcome, filledBy}
 use Rattle.satisfies.specs.Table.{testedBy}
 use Rattle.satisfies.specs.declared.Tested.{Tested}
@@ -55,6 +56,7 @@ pub record Engine : Type 0 where
   pub answerInRows : ℕ → ℕ → List ℕ → List ℕ → ℕ → ℕ → Answered
   pub proof : ℕ → ℕ → List ℕ → ℕ → ℕ → ℕ → ℕ → List ℕ → List ℕ → ProofOutcome
   pub proofCheck : ℕ → ℕ → List ℕ → ℕ → ℕ → ℕ → ℕ → List ℕ → Judged
+  pub unit : ℕ → ℕ → List ℕ → ℕ → List ℕ → ℕ → List ℕ → UnitOutcome
 
 -- A net whose words have origins, and a set of origins to read it with.
 pub record Read (o k : ℕ) (ws : List ℕ) (set : ℕ) : Type 0 where
@@ -86,6 +88,7 @@ ours = record {
   answerInRows = answeredInRows;
   proof = proved;
   proofCheck = judged;
+  unit = simulated;
 }
 
 -- What a scan leaves, done or spent, with the bytes `past` behind its marks.
@@ -122,6 +125,7 @@ withScan f = record {
   answerInRows = ours .answerInRows;
   proof = ours .proof;
   proofCheck = ours .proofCheck;
+  unit = ours .unit;
 }
 
 abbrev pub withQuestion : (ℕ → ℕ → List ℕ → ℕ → ℕ → ℕ → List ℕ → QuestionOutcome) → Engine
@@ -143,6 +147,7 @@ withQuestion f = record {
   answerInRows = ours .answerInRows;
   proof = ours .proof;
   proofCheck = ours .proofCheck;
+  unit = ours .unit;
 }
 
 abbrev pub withCompletion : (ℕ → ℕ → List ℕ → ℕ → List ℕ → List ℕ → CompletionOutcome) → Engine
@@ -164,4 +169,5 @@ withCompletion f = record {
   answerInRows = ours .answerInRows;
   proof = ours .proof;
   proofCheck = ours .proofCheck;
+  unit = ours .unit;
 }

@@ -17,6 +17,7 @@ use Rattle.reason_check.specs.declared.Verdict.{Verdict}
 use Rattle.proof.specs.Table.{ProofOutcome, provedReply}
 use Rattle.proof_check.specs.Table.{judgedReply}
 use Rattle.proof_check.specs.declared.Judged.{Judged}
+use Rattle.unit.specs.Table.{UnitOutcome, simulatedReply}
 use Rattle.valuation.specs.Table.{ValuationOutcome, filledReply}
 use Rattle.satisfies.specs.Table.{testedReply}
 use Rattle.satisfies.specs.declared.Tested.{Tested}
@@ -76,6 +77,9 @@ proofNumber r = provedReply (r .answer) .number
 
 abbrev pub proofCheckNumber : Judged → ℕ
 proofCheckNumber r = judgedReply r .number
+
+abbrev pub unitNumber : UnitOutcome → ℕ
+unitNumber r = simulatedReply (r .answer) .number
 
 abbrev pub fileNumber : FileOutcome → ℕ
 fileNumber r = contentsReply (r .contents) .number

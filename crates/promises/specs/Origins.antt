@@ -22,6 +22,7 @@ pub record SameOperations (e : Engine) (o k : ℕ) (ws : List ℕ) (set : ℕ) (
   pub completionByRows : (yeses noes l : List ℕ) → e .completionByRows o k ws set yeses noes l ≡ e .completionByRows o k vs set′ yeses noes l
   pub proof : (x y sign : ℕ) (d l : List ℕ) → e .proof o k ws set x y sign d l ≡ e .proof o k vs set′ x y sign d l
   pub proofCheck : (x y sign : ℕ) (l : List ℕ) → e .proofCheck o k ws set x y sign l ≡ e .proofCheck o k vs set′ x y sign l
+  pub unit : (program : List ℕ) (budget : ℕ) (m : List ℕ) → e .unit o k ws set program budget m ≡ e .unit o k vs set′ program budget m
 
 pub record FromOrigins (e : Engine) : Type 0 where
   -- Each operation is the one on the chosen words, their origins removed, read with any set that has 0.

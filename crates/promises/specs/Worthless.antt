@@ -32,6 +32,8 @@ use Rattle.reason_check.specs.declared.Verdict.the-variants as verdictAs
 use Rattle.proof.specs.Table.{proofOutcome}
 use Rattle.proof.specs.declared.Proved.the-variants as provedAs
 use Rattle.proof_check.specs.declared.Judged.the-variants as judgedAs
+use Rattle.unit.specs.Table.{unitOutcome}
+use Rattle.unit.specs.declared.Simulated.the-variants as simulatedAs
 use Rattle.valuation.specs.Table.{valuationOutcome}
 use Rattle.valuation.specs.declared.Filled.the-variants as filled
 use Rattle.satisfies.specs.declared.Tested.the-variants as tested
@@ -61,6 +63,7 @@ refuser r = record {
   answerInRows = λ o k yeses noes x y. answered.Refused r;
   proof = λ o k ws set x y sign d l. proofOutcome (provedAs.Refused r) d l;
   proofCheck = λ o k ws set x y sign l. judgedAs.Refused r;
+  unit = λ o k ws set program budget m. unitOutcome (simulatedAs.Refused r) m;
 }
 
 -- An answer turned into none.
@@ -132,4 +135,5 @@ hasty = record {
   answerInRows = ours .answerInRows;
   proof = ours .proof;
   proofCheck = ours .proofCheck;
+  unit = ours .unit;
 }

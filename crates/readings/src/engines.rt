@@ -4,6 +4,7 @@ use crate::other;
 use crate::proved;
 use readings_cases::buffers::lend_links;
 use readings_cases::buffers::lend_list;
+use readings_cases::buffers::lend_marks;
 use readings_cases::buffers::lend_mended;
 use readings_cases::buffers::lend_pairs;
 use readings_cases::buffers::lend_proof;
@@ -14,6 +15,7 @@ use readings_cases::buffers::lend_text;
 use readings_cases::buffers::take_answers;
 use readings_cases::buffers::take_links;
 use readings_cases::buffers::take_list;
+use readings_cases::buffers::take_marks;
 use readings_cases::buffers::take_mended;
 use readings_cases::buffers::take_proof;
 use readings_cases::buffers::take_rows;
@@ -494,6 +496,45 @@ fn on_proof_check(engine: Engine, n: Numbers, words: &[u32], list: &[u32]) -> Re
     }
 }
 
+// The unit, with the first places of marks.
+fn on_unit(
+    engine: Engine,
+    n: Numbers,
+    words: &[u32],
+    program: &[u32],
+    size: usize,
+    marks: &mut [u8],
+) -> Reply {
+    let end = least(size, marks.len());
+    match engine {
+        Engine::Proved => proved::on_unit(n, words, program, &mut marks[..end]),
+        Engine::Second => other::on_unit(n, words, program, &mut marks[..end]),
+    }
+}
+
+// The same, with the program as the first buffer and the marks as the second.
+fn with_unit(
+    engine: Engine,
+    n: Numbers,
+    words: &[u32],
+    first: usize,
+    second: usize,
+    buffers: &mut [u32],
+) -> Reply {
+    let mut marks = [0u8; 2048];
+    lend_marks(second, buffers, &mut marks);
+    let reply = on_unit(
+        engine,
+        n,
+        words,
+        numbers_from(buffers, 0, first),
+        second,
+        &mut marks,
+    );
+    take_marks(second, &marks, buffers);
+    reply
+}
+
 // The contents of a file.
 fn on_file(engine: Engine, file: &[u8]) -> Reply {
     match engine {
@@ -556,6 +597,7 @@ pub fn run(
         Operation::ProofCheck => {
             on_proof_check(engine, n, words, numbers_from(buffers, 0, first))
         }
+        Operation::Unit => with_unit(engine, n, words, first, second, buffers),
         Operation::File => with_file(engine, first, buffers),
         Operation::Ask => with_text(engine, first, buffers),
         _ => with_marks(engine, operation, n, words, first, buffers),

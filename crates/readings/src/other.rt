@@ -109,6 +109,11 @@ pub fn on_proof_check(n: Numbers, words: &[u32], list: &[u32]) -> Reply {
     second::proof_check(n.o, n.k, words, n.set, n.x, n.y, n.sign, list)
 }
 
+// The unit.
+pub fn on_unit(n: Numbers, words: &[u32], program: &[u32], marks: &mut [u8]) -> Reply {
+    second::unit(n.o, n.k, words, n.set, program, n.x, marks)
+}
+
 // The contents of a file.
 pub fn on_file(file: &[u8]) -> Reply {
     second::read_file(file)

@@ -24,6 +24,7 @@ use strumelka::strumelka_reason;
 use strumelka::strumelka_reason_check;
 use strumelka::strumelka_satisfies;
 use strumelka::strumelka_scan;
+use strumelka::strumelka_unit;
 use strumelka::strumelka_valuation;
 
 // The check of a net.
@@ -136,6 +137,11 @@ pub fn on_proof(n: Numbers, words: &[u32], scratch: &mut [u16], list: &mut [u32]
 // The check of a proof.
 pub fn on_proof_check(n: Numbers, words: &[u32], list: &[u32]) -> Reply {
     reply_given(strumelka_proof_check(n.o, n.k, words, n.set, n.x, n.y, n.sign, list))
+}
+
+// The unit.
+pub fn on_unit(n: Numbers, words: &[u32], program: &[u32], marks: &mut [u8]) -> Reply {
+    reply_given(strumelka_unit(n.o, n.k, words, n.set, program, n.x, marks))
 }
 
 // The contents of a file.

@@ -37,6 +37,7 @@ fn writes_first(operation: Operation) -> bool {
         Operation::Satisfies => false,
         Operation::ReasonCheck => false,
         Operation::ProofCheck => false,
+        Operation::Unit => false,
         Operation::File => false,
         Operation::Ask => false,
         _ => true,
@@ -54,6 +55,7 @@ fn writes_second(operation: Operation) -> bool {
         Operation::Valuation => true,
         Operation::Reason => true,
         Operation::Proof => true,
+        Operation::Unit => true,
         Operation::Ask => true,
         _ => false,
     }
@@ -286,6 +288,16 @@ pub fn lend_proof(
 pub fn take_proof(first: usize, second: usize, scratch: &[u16], list: &[u32], buffers: &mut [u32]) {
     from_halves(halves_before(scratch, first), buffers, 0);
     copy(numbers_from(list, 0, second), buffers, SECOND_BUFFER);
+}
+
+// The marks of the unit, as they are in the second buffer; its program stays in the first.
+pub fn lend_marks(second: usize, buffers: &[u32], marks: &mut [u8]) {
+    to_bytes(numbers_from(buffers, SECOND_BUFFER, second), marks);
+}
+
+// Takes the marks of the unit back into the second buffer.
+pub fn take_marks(second: usize, marks: &[u8], buffers: &mut [u32]) {
+    from_bytes(bytes_between(marks, 0, second), buffers, SECOND_BUFFER);
 }
 
 // A file and the text for it, as they are in the two buffers.

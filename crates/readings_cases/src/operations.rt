@@ -35,6 +35,7 @@ pub enum Operation {
     ReasonCheck,
     Proof,
     ProofCheck,
+    Unit,
     File,
     Ask,
     Unknown,
@@ -127,13 +128,16 @@ fn model_operation_of(name: &[u8]) -> Operation {
     proof_operation_of(name)
 }
 
-// The operation of a name, among those about proofs, reasons and files.
+// The operation of a name, among those about proofs, the unit, reasons and files.
 fn proof_operation_of(name: &[u8]) -> Operation {
     if same_bytes(name, b"proof") {
         return Operation::Proof;
     }
     if same_bytes(name, b"proof_check") {
         return Operation::ProofCheck;
+    }
+    if same_bytes(name, b"unit") {
+        return Operation::Unit;
     }
     file_operation_of(name)
 }
@@ -155,7 +159,7 @@ fn file_operation_of(name: &[u8]) -> Operation {
     Operation::Unknown
 }
 
-// The letter of an operation's field, 0 after its last: n a number, b a byte, w words, m marks, c words that are written or a proof, s scratch,
+// The letter of an operation's field, 0 after its last: n a number, b a byte, w words, m marks, c words that are written, a proof or a program, s scratch,
 // r a reason, f a file, p pairs, a their answers, t a valuation's table, d rows of bits.
 fn letter_at(operation: Operation, at: usize) -> u8 {
     match operation {
@@ -176,6 +180,7 @@ fn letter_at(operation: Operation, at: usize) -> u8 {
         Operation::ReasonCheck => byte_at(b"nnwnnnnr", at),
         Operation::Proof => byte_at(b"nnwnnnnsc", at),
         Operation::ProofCheck => byte_at(b"nnwnnnnc", at),
+        Operation::Unit => byte_at(b"nnwncnm", at),
         Operation::File => byte_at(b"f", at),
         Operation::Ask => byte_at(b"fb", at),
         Operation::Unknown => 0,

@@ -19,7 +19,7 @@ use theory::Command;
 const PENDING: u8 = 3;
 
 // The byte of marker `j` alone.
-fn bit_of(j: u8) -> u8
+pub fn bit_of(j: u8) -> u8
     requires { ⌜ j < 8 ⌝ }
     ensures { λ r. ⌜ r ≡ 2 ^ j ⌝ }
 {
@@ -74,7 +74,7 @@ pub fn tests_of(set: u32, c: Command) -> [u8; 8]
 }
 
 // The end of a link that a command tests: the tail, or where `at_head` holds the head.
-fn near_of(at_head: bool, word: u32) -> usize
+pub fn near_of(at_head: bool, word: u32) -> usize
     ensures { λ r. ⌜ r ≡ near «at_head» word ⌝ }
 {
     if at_head {
@@ -85,7 +85,7 @@ fn near_of(at_head: bool, word: u32) -> usize
 }
 
 // The other end, where it puts its marker.
-fn far_of(at_head: bool, word: u32) -> usize
+pub fn far_of(at_head: bool, word: u32) -> usize
     ensures { λ r. ⌜ r ≡ far «at_head» word ⌝ }
 {
     if at_head {

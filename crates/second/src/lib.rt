@@ -15,6 +15,7 @@ mod search; // search.rt: the shortest reason
 mod path; // path.rt: whether a list is a path
 mod proving; // proving.rt: our proof of a statement
 mod sequents; // sequents.rt: whether a list is a proof
+mod machine; // machine.rt: the marker unit
 mod file; // file.rt: the net file
 mod text; // text.rt: the lines of `ask`
 
@@ -44,6 +45,8 @@ use file::set_of;
 use file::set_start;
 use file::start_of;
 use file::wrong_place;
+use machine::first_wrong;
+use machine::run_unit;
 use mending::mend_words;
 use models::are_values;
 use models::holds;
@@ -448,6 +451,31 @@ pub fn proof_check(
     }
     let n = narrow(node_count(o, k));
     verdict(o, n, words, set, statement(x, y, sign), list)
+}
+
+// Runs a program of the marker unit; the first place at fault where there is one.
+pub fn unit(
+    o: u32,
+    k: u32,
+    words: &[u32],
+    set: u32,
+    program: &[u32],
+    budget: u32,
+    marks: &mut [u8],
+) -> Reply {
+    let checked = net_check(o, k, words, set);
+    if checked.number != 0 {
+        return checked;
+    }
+    let n = node_count(o, k);
+    if marks.len() < n {
+        return refused(5);
+    }
+    let place = first_wrong(n, program);
+    if place < program.len() {
+        return given(16, narrow(place), 0);
+    }
+    run_unit(narrow(n), words, set, program, budget, marks)
 }
 
 // The numbers of the net of a well-formed file: without a set its words are plain ones.

@@ -15,6 +15,7 @@ use Rattle.reason.specs.Table.{reasoned, reasonedReply}
 use Rattle.reason_check.specs.Table.{verdict, verdictReply}
 use Rattle.proof.specs.Table.{proved, provedReply}
 use Rattle.proof_check.specs.Table.{judged, judgedReply}
+use Rattle.unit.specs.Table.{simulated, simulatedReply}
 use Rattle.valuation.specs.Table.{filledBy, filledReply}
 use Rattle.satisfies.specs.Table.{testedBy, testedReply}
 use Rattle.rows_completion.specs.Table.{completedByRows}
@@ -67,6 +68,12 @@ module _ (o k : ℕ) (ws : List ℕ) (set : ℕ) (r q : Reply) where
         → (r ≡ scanReply (scanned o k ws set x budget marks .answer)) × (m ≡ scanned o k ws set x budget marks .marks)
         → (q ≡ scanReply (scanned o k ws set x budget marks .answer)) × (l ≡ scanned o k ws set x budget marks .marks) → (r ≡ q) × (m ≡ l)
     given-scan-unique x budget = leaves-one r q m l
+
+    -- `strumelka_unit`.
+    pub given-unit-unique : (program : List ℕ) (budget : ℕ)
+        → (r ≡ simulatedReply (simulated o k ws set program budget marks .answer)) × (m ≡ simulated o k ws set program budget marks .marks)
+        → (q ≡ simulatedReply (simulated o k ws set program budget marks .answer)) × (l ≡ simulated o k ws set program budget marks .marks) → (r ≡ q) × (m ≡ l)
+    given-unit-unique program budget = leaves-one r q m l
 
     -- `strumelka_question`.
     pub given-question-unique : (x y : ℕ)

@@ -13,6 +13,7 @@ ghost use Rattle.reason.specs.Table.{reasoned, reasonedReply};
 ghost use Rattle.reason_check.specs.Table.{verdict, verdictReply};
 ghost use Rattle.proof.specs.Table.{proved, provedReply};
 ghost use Rattle.proof_check.specs.Table.{judged, judgedReply};
+ghost use Rattle.unit.specs.Table.{simulated, simulatedReply};
 ghost use Rattle.valuation.specs.Table.{filledBy, filledReply};
 ghost use Rattle.satisfies.specs.Table.{testedBy, testedReply};
 ghost use Rattle.rows_completion.specs.Table.{completedByRows};
@@ -33,6 +34,7 @@ use library_answer::mended_given;
 use library_answer::proved_given;
 use library_answer::reasoned_given;
 use library_answer::scanned_given;
+use library_answer::simulated_given;
 use library_answer::tested_given;
 use library_answer::verdict_given;
 use library_reply::checked_given;
@@ -50,6 +52,7 @@ use rows_answer::answer_in_rows;
 use rows_completion::completion_by_rows;
 use satisfies::test_valuation;
 use scan::scan;
+use unit::run_unit;
 use valuation::fill_valuation;
 
 // The test of a single word.
@@ -318,4 +321,21 @@ pub extern "C" fn strumelka_answer_in_rows(
     ensures { λ r. ⌜ r ≡ answeredReply (answeredInRows o k (now (yeses .entry)) (now (noes .entry)) x y) ⌝ }
 {
     answered_given(answer_in_rows(o, k, yeses, noes, x, y))
+}
+
+// A program of the marker unit, run within `budget` commands on the marks as they are lent.
+#[no_mangle]
+pub extern "C" fn strumelka_unit(
+    o: u32,
+    k: u32,
+    words: &[u32],
+    set: u32,
+    program: &[u32],
+    budget: u32,
+    marks: &mut [u8],
+) -> Reply
+    ensures { λ r. ⌜ (r ≡ simulatedReply (simulated o k (now (words .entry)) set (now (program .entry)) budget (now (marks .entry)) .answer))
+        × (now (marks .exit) ≡ simulated o k (now (words .entry)) set (now (program .entry)) budget (now (marks .entry)) .marks) ⌝ }
+{
+    simulated_given(run_unit(o, k, words, set, program, budget, marks))
 }

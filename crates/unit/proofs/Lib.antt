@@ -1,0 +1,4 @@
+pub mod Outcomes
+pub mod Replies
+pub mod Readings
+pub mod Merged

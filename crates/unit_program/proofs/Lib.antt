@@ -1,0 +1,6 @@
+pub mod Looping
+pub mod MergedScan
+pub mod Parsing
+pub mod FirstFault
+pub mod Stepping
+pub mod Determined
