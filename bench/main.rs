@@ -1,10 +1,13 @@
-//! Times the proved engine against the same algorithm in plain Rust, in one process and by turns, and prints Markdown.
+//! Times the proved engine against the same algorithm in plain Rust, in one process and by turns, and prints Markdown. Scans are timed against
+//! the plan of the engine's first version as well.
 //! Times are processor time of this process, so that other work on the machine disturbs them little. The links have all origins by
 //! turns, and the set lent has them all.
 //!
-//! `bench [ratios]`: with `ratios` no times are printed, for a machine on which the code is emulated.
+//! `bench [ratios] [TABLE..]`: with `ratios` no times are printed, for a machine on which the code is emulated. The tables are `operations`, `screenful`, `rows`,
+//! `compaction`, `mending` and `growth`; without a name all of them are printed.
 
 mod engine;
+mod marks;
 #[path = "../tests/library/nets.rs"]
 #[allow(dead_code)]
 mod nets;
@@ -93,45 +96,51 @@ struct Measured {
 }
 
 fn main() {
-    let ratios = std::env::args()
-        .nth(1)
-        .map_or(false, |word| word == "ratios");
-    print_operations(
-        ratios,
-        &[
+    let asked: Vec<String> = std::env::args().skip(1).collect();
+    let ratios = asked.iter().any(|word| word == "ratios");
+    let tables: Vec<&String> = asked.iter().filter(|&word| word != "ratios").collect();
+    let wanted = |name: &str| tables.is_empty() || tables.iter().any(|table| *table == name);
+    let three = || {
+        [
             random_shape(100, 800, 8_000),
             chain_shape(900),
             random_shape(24, 1000, 200_000),
-        ],
-    );
-    println!("\n64 questions about one node, in one call and one by one:\n");
-    print_screenful(ratios, &random_shape(100, 800, 8_000));
-    println!("\nCompletion by rows of bits, which the call clears itself; `by size` is the plain program compiled for each size of a row:\n");
-    print_rows(
-        ratios,
-        &[
-            random_shape(100, 800, 8_000),
-            chain_shape(900),
-            random_shape(24, 1000, 200_000),
-        ],
-    );
-    println!("\nThe same against completion by markers:\n");
-    print_both_completions(ratios, &random_shape(100, 800, 8_000));
-    println!("\nCompaction of a list of plain words, written anew for each call:\n");
-    print_compaction(
-        ratios,
-        &[
-            random_shape(100, 800, 8_000),
-            repeated_shape(100, 800, 8_000),
-        ],
-    );
-    println!("\nMending a net, and a scan of the same net:\n");
-    print_mending(ratios, &mended_shape(100, 800, 8_000, 300));
-    println!("\nHow a scan's time grows with words (random links on 1,024 nodes):\n");
-    let sizes = [1_000, 4_000, 16_000, 64_000, 256_000, 1_024_000];
-    print_growth(ratios, &sizes.map(|size| random_shape(24, 1000, size)));
-    println!("\nHow it grows with depth (a chain, scanned from its first node):\n");
-    print_growth(ratios, &[50, 100, 200, 400, 800].map(chain_shape));
+        ]
+    };
+    if wanted("operations") {
+        print_operations(ratios, &three());
+    }
+    if wanted("screenful") {
+        println!("\n64 questions about one node, in one call and one by one:\n");
+        print_screenful(ratios, &random_shape(100, 800, 8_000));
+    }
+    if wanted("rows") {
+        println!("\nCompletion by rows of bits, which the call clears itself; `by size` is the plain program compiled for each size of a row:\n");
+        print_rows(ratios, &three());
+        println!("\nThe same against completion by markers:\n");
+        print_both_completions(ratios, &random_shape(100, 800, 8_000));
+    }
+    if wanted("compaction") {
+        println!("\nCompaction of a list of plain words, written anew for each call:\n");
+        print_compaction(
+            ratios,
+            &[
+                random_shape(100, 800, 8_000),
+                repeated_shape(100, 800, 8_000),
+            ],
+        );
+    }
+    if wanted("mending") {
+        println!("\nMending a net, and a scan of the same net:\n");
+        print_mending(ratios, &mended_shape(100, 800, 8_000, 300));
+    }
+    if wanted("growth") {
+        println!("\nHow a scan's time grows with words (random links on 1,024 nodes):\n");
+        let sizes = [1_000, 4_000, 16_000, 64_000, 256_000, 1_024_000];
+        print_growth(ratios, &sizes.map(|size| random_shape(24, 1000, size)));
+        println!("\nHow it grows with depth (a chain, scanned from its first node):\n");
+        print_growth(ratios, &[50, 100, 200, 400, 800].map(chain_shape));
+    }
 }
 
 fn random_shape(o: usize, k: usize, size: usize) -> Shape {
@@ -219,27 +228,53 @@ fn of_all_origins(mut net: Net) -> Net {
 
 fn print_operations(ratios: bool, shapes: &[Shape]) {
     println!(
-        "| net | operation | {}proved / plain |",
-        if ratios { "" } else { "proved | plain | " }
+        "| net | operation | {}proved / plain | first plan / proved |",
+        if ratios {
+            ""
+        } else {
+            "proved | plain | first plan | "
+        }
     );
-    println!("|---|---|{}---|", if ratios { "" } else { "---|---|" });
+    println!(
+        "|---|---|{}---|---|",
+        if ratios { "" } else { "---|---|---|" }
+    );
     for shape in shapes {
         for (operation, name) in OPERATIONS {
             let best = measure(shape, operation);
+            let base = is_scan(operation).then(|| measure_against(&plain::BASE, shape, operation));
+            let base_time = base.as_ref().map_or(String::new(), |base| time(base.plain));
+            let gain = base.map_or(String::new(), |base| {
+                format!("{:.2}", base.plain / base.proved)
+            });
             let times = if ratios {
                 String::new()
             } else {
-                format!("{} | {} | ", time(best.proved), time(best.plain))
+                format!(
+                    "{} | {} | {} | ",
+                    time(best.proved),
+                    time(best.plain),
+                    base_time
+                )
             };
             println!(
-                "| {} | {} | {}{:.2} |",
+                "| {} | {} | {}{:.2} | {} |",
                 shape.name,
                 name,
                 times,
-                best.proved / best.plain
+                best.proved / best.plain,
+                gain
             );
         }
     }
+}
+
+/// Whether an operation is scans, so that the plan of the rounds matters.
+fn is_scan(operation: Operation) -> bool {
+    matches!(
+        operation,
+        Operation::Scan | Operation::Question | Operation::Clash | Operation::Completion
+    )
 }
 
 fn print_screenful(ratios: bool, shape: &Shape) {
@@ -382,16 +417,17 @@ fn print_mending(ratios: bool, shape: &Shape) {
 
 fn print_growth(ratios: bool, shapes: &[Shape]) {
     println!(
-        "| net | rounds | {}proved / plain |",
+        "| net | rounds | {}proved / plain | first plan / proved |",
         if ratios {
             ""
         } else {
             "proved | a word and round | "
         }
     );
-    println!("|---|---|{}---|", if ratios { "" } else { "---|---|" });
+    println!("|---|---|{}---|---|", if ratios { "" } else { "---|---|" });
     for shape in shapes {
         let best = measure(shape, Operation::Scan);
+        let base = measure_against(&plain::BASE, shape, Operation::Scan);
         let rounds = best.answer.first;
         let each = best.proved / (rounds as f64 * shape.net.words.len() as f64);
         let times = if ratios {
@@ -400,11 +436,12 @@ fn print_growth(ratios: bool, shapes: &[Shape]) {
             format!("{} | {} | ", time(best.proved), time(each))
         };
         println!(
-            "| {} | {} | {}{:.2} |",
+            "| {} | {} | {}{:.2} | {:.2} |",
             shape.name,
             rounds,
             times,
-            best.proved / best.plain
+            best.proved / best.plain,
+            base.plain / base.proved
         );
     }
 }

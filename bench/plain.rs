@@ -1,8 +1,10 @@
 //! The plain engine: the timed operations of the request in ordinary Rust. Its algorithms are the proved engine's, so that
-//! the two can be timed against each other: a scan is the marker machine, a command and a level of distances are one pass
-//! over the words each, a link of an origin that is not chosen is left out where it is read, and nothing is allocated.
+//! the two can be timed against each other: a scan is the marker machine by a plan of `marks.rs`, a command and a level of
+//! distances are one pass over the words each, a link of an origin that is not chosen is left out where it is read, and nothing
+//! is allocated.
 
 use crate::engine::{Answer, Engine};
+use crate::marks::{Base, Best, Plan, F, T, U};
 use crate::nets::{
     head_of, is_chosen, origin_of, plain as plain_of, row_size, tail_of, word, ALL_ORIGINS,
     ORIGINS, WORD_LIMIT,
@@ -21,24 +23,26 @@ const CAUSE_ORIGIN: u32 = 3;
 const CAUSE_TAIL: u32 = 1;
 const CAUSE_HEAD: u32 = 2;
 
-const T: u8 = 1;
-const F: u8 = 2;
-const U: u8 = 4;
+/// The functions of this file, with scans by a plan.
+const fn engine<P: Plan>() -> Engine {
+    Engine {
+        check_net,
+        scan: scan::<P>,
+        question: question::<P>,
+        questions: questions::<P>,
+        completion: completion::<P>,
+        completion_by_rows,
+        clash: clash::<P>,
+        compact: compact::<P>,
+        mend: mend::<P>,
+        reason,
+        reason_check,
+    }
+}
 
-/// The functions of this file.
-pub const ENGINE: Engine = Engine {
-    check_net,
-    scan,
-    question,
-    questions,
-    completion,
-    completion_by_rows,
-    clash,
-    compact,
-    mend,
-    reason,
-    reason_check,
-};
+/// The best plan, and that of the engine's first version.
+pub const ENGINE: Engine = engine::<Best>();
+pub const BASE: Engine = engine::<Base>();
 
 /// The same with rows by code for each size of a row.
 pub const BY_SIZE: Engine = Engine {
@@ -79,7 +83,7 @@ fn check_net(o: u32, k: u32, words: &[u32], set: u32) -> Answer {
     })
 }
 
-fn scan(
+fn scan<P: Plan>(
     o: u32,
     k: u32,
     words: &[u32],
@@ -90,21 +94,29 @@ fn scan(
 ) -> Answer {
     on_net(o, k, words, set, |net| {
         let x = net.node(start)?;
-        let (ended, count) = net.scan(x, budget, net.places(1, marks)?);
+        let (ended, count) = net.scan::<P>(x, budget, net.places(1, marks)?);
         Ok(Answer::new(if ended { 0 } else { 6 }, count, 0))
     })
 }
 
-fn question(o: u32, k: u32, words: &[u32], set: u32, x: u32, y: u32, marks: &mut [u8]) -> Answer {
+fn question<P: Plan>(
+    o: u32,
+    k: u32,
+    words: &[u32],
+    set: u32,
+    x: u32,
+    y: u32,
+    marks: &mut [u8],
+) -> Answer {
     on_net(o, k, words, set, |net| {
         let (x, y) = (net.node(x)?, net.kind(y)?);
         let marks = net.places(1, marks)?;
-        let count = net.scan_whole(x, marks);
+        let count = net.scan_whole::<P>(x, marks);
         Ok(Answer::new(0, answer(marks[y]), count))
     })
 }
 
-fn questions(
+fn questions<P: Plan>(
     o: u32,
     k: u32,
     words: &[u32],
@@ -126,7 +138,7 @@ fn questions(
                 continue;
             };
             if scanned != Some(x) {
-                net.scan_whole(x, marks);
+                net.scan_whole::<P>(x, marks);
                 scanned = Some(x);
             }
             *byte = answer(marks[y]) as u8;
@@ -135,7 +147,7 @@ fn questions(
     })
 }
 
-fn completion(
+fn completion<P: Plan>(
     o: u32,
     k: u32,
     words: &[u32],
@@ -145,16 +157,17 @@ fn completion(
 ) -> Answer {
     on_net(o, k, words, set, |net| {
         let marks = net.places(1, marks)?;
-        let size = net.count_supported(marks);
-        if size <= list.len() {
-            net.write_supported(marks, list);
-        }
+        let size = match P::COUNTS || list.len() < net.most_words() {
+            true => net.count_supported::<P>(marks),
+            false => 0,
+        };
+        let fits = size <= list.len();
+        let size = match fits {
+            true => net.write_supported::<P>(marks, list),
+            false => size,
+        };
         marks.fill(0);
-        Ok(Answer::new(
-            if size <= list.len() { 0 } else { 8 },
-            size as u32,
-            0,
-        ))
+        Ok(Answer::new(if fits { 0 } else { 8 }, size as u32, 0))
     })
 }
 
@@ -200,11 +213,11 @@ fn write_rows(nodes: usize, yes: &[u64], no: &[u64], list: &mut [u32]) -> Answer
     Answer::new(0, size as u32, 0)
 }
 
-fn clash(o: u32, k: u32, words: &[u32], set: u32, marks: &mut [u8]) -> Answer {
+fn clash<P: Plan>(o: u32, k: u32, words: &[u32], set: u32, marks: &mut [u8]) -> Answer {
     on_net(o, k, words, set, |net| {
         let marks = net.places(1, marks)?;
         let found = (0..net.nodes).find_map(|x| {
-            net.scan_whole(x, marks);
+            net.scan_whole::<P>(x, marks);
             let mut kinds = net.objects..net.nodes;
             Some((x, kinds.find(|&y| marks[y] & (U | F) == U | F)?))
         });
@@ -216,11 +229,11 @@ fn clash(o: u32, k: u32, words: &[u32], set: u32, marks: &mut [u8]) -> Answer {
     })
 }
 
-fn compact(o: u32, k: u32, list: &mut [u32], marks: &mut [u8]) -> Answer {
-    given(compact_plain(o, k, list, marks))
+fn compact<P: Plan>(o: u32, k: u32, list: &mut [u32], marks: &mut [u8]) -> Answer {
+    given(compact_plain::<P>(o, k, list, marks))
 }
 
-fn compact_plain(o: u32, k: u32, list: &mut [u32], marks: &mut [u8]) -> Outcome {
+fn compact_plain<P: Plan>(o: u32, k: u32, list: &mut [u32], marks: &mut [u8]) -> Outcome {
     let Net { objects, nodes, .. } = Net::checked(o, k, list, PLAIN, 1)?;
     let Some(marks) = marks.get_mut(..nodes) else {
         return refused(5);
@@ -237,7 +250,7 @@ fn compact_plain(o: u32, k: u32, list: &mut [u32], marks: &mut [u8]) -> Outcome 
             words: others,
             set: PLAIN,
         };
-        if net.supports(link[0], marks) {
+        if net.supports::<P>(link[0], marks) {
             size -= 1;
         } else {
             list[at..size].rotate_right(1);
@@ -248,7 +261,7 @@ fn compact_plain(o: u32, k: u32, list: &mut [u32], marks: &mut [u8]) -> Outcome 
     Ok(Answer::new(0, size as u32, 0))
 }
 
-fn mend(
+fn mend<P: Plan>(
     o: u32,
     k: u32,
     words: &[u32],
@@ -256,10 +269,10 @@ fn mend(
     dropped: &mut [u32],
     marks: &mut [u8],
 ) -> Answer {
-    given(mend_plain(o, k, words, kept, dropped, marks))
+    given(mend_plain::<P>(o, k, words, kept, dropped, marks))
 }
 
-fn mend_plain(
+fn mend_plain<P: Plan>(
     o: u32,
     k: u32,
     words: &[u32],
@@ -282,7 +295,7 @@ fn mend_plain(
             words: &kept[..keeps + 1],
             set: PLAIN,
         };
-        match net.clash_by(word, marks) {
+        match net.clash_by::<P>(word, marks) {
             None => keeps += 1,
             Some((x, y)) => {
                 kept[keeps] = held;
@@ -465,38 +478,28 @@ impl<'a> Net<'a> {
     }
 
     /// Rounds of the scan from `x` until one sets nothing: whether that was within the budget, and how many were run.
-    fn scan(&self, x: usize, budget: u32, marks: &mut [u8]) -> (bool, u32) {
+    fn scan<P: Plan>(&self, x: usize, budget: u32, marks: &mut [u8]) -> (bool, u32) {
         marks.fill(0);
         marks[x] = T | U;
-        run_rounds(budget, || self.round(marks))
-    }
-
-    /// The five commands; whether one of them set a mark.
-    #[inline(always)]
-    fn round(&self, marks: &mut [u8]) -> bool {
-        command::<0, true, T, T>(self.words, self.set, marks)
-            | command::<0, false, U, U>(self.words, self.set, marks)
-            | command::<0, true, F, F>(self.words, self.set, marks)
-            | command::<1, false, U, F>(self.words, self.set, marks)
-            | command::<1, true, U, F>(self.words, self.set, marks)
+        P::run(self.words, self.set, budget, marks)
     }
 
     /// Whether the net supports what a word says: the whole scan from its tail, read at its head.
-    fn supports(&self, word: u32, marks: &mut [u8]) -> bool {
+    fn supports<P: Plan>(&self, word: u32, marks: &mut [u8]) -> bool {
         let wanted = if word % 2 == 0 { U } else { F };
-        self.scan_whole(tail_of(word), marks);
+        self.scan_whole::<P>(tail_of(word), marks);
         marks[head_of(word)] & wanted != 0
     }
 
     /// The smallest clash of a net that has none without the word: one scan with T on its tail, and U or F on its head, leaves T
     /// and F exactly on the nodes that clash, and a scan from the smallest of them shows its kinds.
-    fn clash_by(&self, word: u32, marks: &mut [u8]) -> Option<(usize, usize)> {
+    fn clash_by<P: Plan>(&self, word: u32, marks: &mut [u8]) -> Option<(usize, usize)> {
         marks.fill(0);
         marks[tail_of(word)] |= T;
         marks[head_of(word)] |= if word % 2 == 0 { U } else { F };
-        while self.round(marks) {}
+        P::run(self.words, self.set, u32::MAX, marks);
         let x = marks.iter().position(|byte| byte & (T | F) == T | F)?;
-        self.scan_whole(x, marks);
+        self.scan_whole::<P>(x, marks);
         let y = marks[self.objects..]
             .iter()
             .position(|byte| byte & (U | F) == U | F);
@@ -504,17 +507,17 @@ impl<'a> Net<'a> {
     }
 
     /// The scan with a budget that no net spends.
-    fn scan_whole(&self, x: usize, marks: &mut [u8]) -> u32 {
-        let (ended, count) = self.scan(x, 3 * self.nodes as u32 - 1, marks);
+    fn scan_whole<P: Plan>(&self, x: usize, marks: &mut [u8]) -> u32 {
+        let (ended, count) = self.scan::<P>(x, 3 * self.nodes as u32 - 1, marks);
         assert!(ended, "a scan takes at most 3N - 1 rounds");
         count
     }
 
     /// How many statements the net supports.
-    fn count_supported(&self, marks: &mut [u8]) -> usize {
+    fn count_supported<P: Plan>(&self, marks: &mut [u8]) -> usize {
         let mut size = 0;
         for x in 0..self.nodes {
-            self.scan_whole(x, marks);
+            self.scan_whole::<P>(x, marks);
             let kinds = marks[self.objects..].iter();
             size += kinds
                 .map(|byte| (byte & (U | F)).count_ones() as usize)
@@ -523,12 +526,20 @@ impl<'a> Net<'a> {
         size
     }
 
-    /// Their words into the front of the list, ascending.
-    fn write_supported(&self, marks: &mut [u8], list: &mut [u32]) {
-        let mut places = list.iter_mut();
-        let mut write = |word: usize| *places.next().expect("the words were counted") = word as u32;
+    /// How many they can be: a list of as many places is written without counting them first.
+    fn most_words(&self) -> usize {
+        2 * self.nodes * (self.nodes - self.objects)
+    }
+
+    /// Their words into the front of the list, ascending: how many.
+    fn write_supported<P: Plan>(&self, marks: &mut [u8], list: &mut [u32]) -> usize {
+        let mut size = 0;
+        let mut write = |word: usize| {
+            list[size] = word as u32;
+            size += 1;
+        };
         for x in 0..self.nodes {
-            self.scan_whole(x, marks);
+            self.scan_whole::<P>(x, marks);
             for y in self.objects..self.nodes {
                 if marks[y] & U != 0 {
                     write(x * 2048 + y * 2);
@@ -538,6 +549,7 @@ impl<'a> Net<'a> {
                 }
             }
         }
+        size
     }
 
     /// The moves that a word, if it is chosen, gives a path of the sign asked. A node of the first part is the state of its
@@ -653,41 +665,4 @@ impl<'a> Net<'a> {
 /// What a kind's byte answers about the start of the scan: U is yes, F is no.
 fn answer(byte: u8) -> u32 {
     (byte & U != 0) as u32 + 2 * (byte & F != 0) as u32
-}
-
-/// One command: each chosen link of the sign with TEST at the tail, or with UP at the head, puts PUT at its other end.
-/// The marks tested are those at the command's beginning. Whether a mark was set.
-fn command<const SIGN: u32, const UP: bool, const TEST: u8, const PUT: u8>(
-    words: &[u32],
-    set: u32,
-    marks: &mut [u8],
-) -> bool {
-    let mut old = [0; NODE_LIMIT];
-    old[..marks.len()].copy_from_slice(marks);
-    let mut changed = false;
-    for &word in words {
-        if word % 2 != SIGN || !is_chosen(set, word) {
-            continue;
-        }
-        let (near, far) = if UP {
-            (head_of(word), tail_of(word))
-        } else {
-            (tail_of(word), head_of(word))
-        };
-        if old[near] & TEST != 0 && marks[far] & PUT == 0 {
-            marks[far] |= PUT;
-            changed = true;
-        }
-    }
-    changed
-}
-
-/// Rounds until one sets nothing or the budget is spent: whether the rounds ended, and how many were run.
-fn run_rounds(budget: u32, mut round: impl FnMut() -> bool) -> (bool, u32) {
-    for count in 1..=budget {
-        if !round() {
-            return (true, count);
-        }
-    }
-    (false, budget)
 }

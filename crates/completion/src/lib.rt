@@ -1,6 +1,7 @@
 // Completion: every supported word of a net, ascending, into the lent list.
 ghost use mathlib.Core.Path.{_≡_};
-ghost use Prim.Native.Nat.{_+_};
+ghost use Prim.Native.Nat.{_+_, _≤_};
+ghost use lib.ListN.{length};
 ghost use Rattle.theory.specs.Origins.{chosen, NetFrom};
 ghost use Rattle.theory.specs.Completion.{complete};
 ghost use Rattle.completion.specs.Table.{completionOutcome, completionClauses, completionDone, completedBy};
@@ -19,7 +20,51 @@ pub enum Completed {
     Refused(Refusal),
 }
 
-// Numbers 5, 8 and 0, on a net that was checked.
+// Number 0 where the list has room for the words: one scan for each node.
+fn complete_at_once(
+    o: u32,
+    k: u32,
+    n: usize,
+    words: &[u32],
+    set: u32,
+    marks: &mut [u8],
+    list: &mut [u32],
+) -> Completed
+    requires net { ⌜ NetFrom o k (now words) ⌝ }
+    requires size { ⌜ n ≡ o + k ⌝ }
+    requires room { ⌜ n ≤ length (now marks) ⌝ }
+    requires fits { ⌜ length (complete o k (chosen set (now words))) ≤ length (now list) ⌝ }
+    ensures { λ r. ⌜ completionOutcome r (now (marks .exit)) (now (list .exit)) ≡ call (completionClauses (complete o k (chosen set (now (words .entry)))) (now (marks .entry)) (now (list .entry)) n) (completionDone (complete o k (chosen set (now (words .entry)))) (now (marks .entry)) (now (list .entry)) n) ⌝ }
+{
+    let size = write_rows(o, k, n, words, set, marks, list);
+    clear(n, marks);
+    Completed::Done(size)
+}
+
+// Numbers 8 and 0: the words are counted first, so that a list that is too short stays as it was.
+fn complete_counted(
+    o: u32,
+    k: u32,
+    n: usize,
+    words: &[u32],
+    set: u32,
+    marks: &mut [u8],
+    list: &mut [u32],
+) -> Completed
+    requires net { ⌜ NetFrom o k (now words) ⌝ }
+    requires size { ⌜ n ≡ o + k ⌝ }
+    requires room { ⌜ n ≤ length (now marks) ⌝ }
+    ensures { λ r. ⌜ completionOutcome r (now (marks .exit)) (now (list .exit)) ≡ call (completionClauses (complete o k (chosen set (now (words .entry)))) (now (marks .entry)) (now (list .entry)) n) (completionDone (complete o k (chosen set (now (words .entry)))) (now (marks .entry)) (now (list .entry)) n) ⌝ }
+{
+    let size = count_rows(o, k, n, words, set, marks);
+    if list.len() < size {
+        clear(n, marks);
+        return Completed::Short(size);
+    }
+    complete_at_once(o, k, n, words, set, marks, list)
+}
+
+// Numbers 5, 8 and 0, on a net that was checked. A list of two places for each node and kind has room for any result.
 fn complete_checked(
     o: u32,
     k: u32,
@@ -36,14 +81,11 @@ fn complete_checked(
     if marks.len() < n {
         return Completed::Refused(Refusal::ShortBuffer);
     }
-    let size = count_rows(o, k, n, words, set, marks);
-    if list.len() < size {
-        clear(n, marks);
-        return Completed::Short(size);
+    let most = n * (k as usize * 2);
+    if list.len() < most {
+        return complete_counted(o, k, n, words, set, marks, list);
     }
-    write_rows(o, k, n, words, set, marks, list);
-    clear(n, marks);
-    Completed::Done(size)
+    complete_at_once(o, k, n, words, set, marks, list)
 }
 
 // The completion of a net: the words it writes are plain.

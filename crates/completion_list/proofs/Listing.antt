@@ -1,13 +1,14 @@
 -- Rows taken in parts, in the terms of loops that have come to node x.
-use Prim.Native.Nat.{ℕ, zero, suc, _+_, _-_, _≤_, _<_}
+use Prim.Native.Nat.{ℕ, zero, suc, _+_, _-_, _*_, _≤_, _<_}
 use mathlib.Core.Path.{_≡_, refl, sym, ap, _∙_}
 use mathlib.Core.List.{List, [], _++_, append-assoc, append-nil}
 use native.Mathlib.Omega.{arith}
+use native.Mathlib.Nat.{suc-mul}
 use native.Mathlib.Numerals.{add-one}
 use lib.ListN.{length, take, length-append}
 use Rattle.theory.specs.Scans.{fullScan}
 use Rattle.theory.specs.Completion.{fullMarks, row, rows, complete}
-use Rattle.completion_cell.proofs.Rows.{row-length, row-frame}
+use Rattle.completion_cell.proofs.Rows.{row-length, row-short, row-frame}
 
 -- The row of z, read off the marks m that the code has after a scan from x.
 pub read-row : (o k n : ℕ) (ws : List ℕ) (x : ℕ) (m : List ℕ) → n ≡ o + k → take n m ≡ fullScan n ws x .marks → (z : ℕ) → row z m o (n - o) ≡ row z (fullMarks o k ws x) o k
@@ -66,3 +67,14 @@ module _ (o k : ℕ) (ws : List ℕ) where
     pub rows-end : (n : ℕ) → n ≤ x → length (rows o k ws x (n - x)) ≡ 0
     unfolding rows
     rows-end n h = let e : n - x ≡ 0 = omega arith in rw e
+
+  -- A node has at most two words for each kind.
+  rows-short : (x j : ℕ) → length (rows o k ws x j) ≤ j * (k * 2)
+  unfolding rows
+  rows-short x zero = omega arith
+  rows-short x (suc j) =
+      omega (arith, length-append (row x (fullMarks o k ws x) o k) (rows o k ws (suc x) j), row-short x (fullMarks o k ws x) o k, rows-short (suc x) j, suc-mul j (k * 2))
+
+  -- So a list of that many places for each node has room for all.
+  pub complete-most : (n : ℕ) → n ≡ o + k → length (complete o k ws) ≤ n * (k * 2)
+  complete-most n e = rw (rows-all n e) at (rows-short 0 n)

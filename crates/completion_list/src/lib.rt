@@ -31,7 +31,7 @@ pub fn count_rows(o: u32, k: u32, n: usize, words: &[u32], set: u32, marks: &mut
     size
 }
 
-// Each node's row into what remains of the list. The marks of the nodes are spoilt.
+// Each node's row into what remains of the list; how many words. The marks of the nodes are spoilt.
 pub fn write_rows(
     o: u32,
     k: u32,
@@ -40,14 +40,15 @@ pub fn write_rows(
     set: u32,
     marks: &mut [u8],
     list: &mut [u32],
-)
+) -> usize
     requires net { ⌜ NetFrom o k (now words) ⌝ }
     requires size { ⌜ n ≡ o + k ⌝ }
     requires room { ⌜ n ≤ length (now marks) ⌝ }
     requires fits { ⌜ length (complete o k (chosen set (now words))) ≤ length (now list) ⌝ }
-    ensures written { λ _. ⌜ now (list .exit) ≡ over (complete o k (chosen set (now (words .entry)))) (now (list .entry)) ⌝ }
-    ensures past { λ _. ⌜ drop n (now (marks .exit)) ≡ drop n (now (marks .entry)) ⌝ }
-    ensures long { λ _. ⌜ length (now (marks .exit)) ≡ length (now (marks .entry)) ⌝ }
+    ensures counted { λ r. ⌜ r ≡ length (complete o k (chosen set (now (words .entry)))) ⌝ }
+    ensures written { λ r. ⌜ now (list .exit) ≡ over (complete o k (chosen set (now (words .entry)))) (now (list .entry)) ⌝ }
+    ensures past { λ r. ⌜ drop n (now (marks .exit)) ≡ drop n (now (marks .entry)) ⌝ }
+    ensures long { λ r. ⌜ length (now (marks .exit)) ≡ length (now (marks .entry)) ⌝ }
 {
     let objects = o as usize;
     let nodes = n as u32;
@@ -59,4 +60,5 @@ pub fn write_rows(
         at += size;
         x += 1;
     }
+    at
 }

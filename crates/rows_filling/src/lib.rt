@@ -19,10 +19,11 @@ use rows_links::put_links;
 use rows_word::clear_words;
 use rows_word::has_bit;
 use rows_word::join_rows;
+use rows_word::join_two;
 use rows_word::put_bit;
 use rows_word::rows_meet;
 
-// The row gains the rows of the nodes in the word: the next is given by its trailing zeros.
+// The row gains the rows of the nodes in the word, two at a time: the next is given by the trailing zeros.
 fn gather_word(base: usize, n: usize, w: usize, word: u64, rows: &[u64], row: &mut [u64])
     requires { ⌜ (w ≤ length (now row)) × (n * w ≤ length (now rows)) × (base < 1024) × Below base n word ⌝ }
     ensures { λ _. ⌜ now (row .exit) ≡ gatherNodes w base (members word) (now (rows .entry)) (now (row .entry)) ⌝ }
@@ -30,8 +31,14 @@ fn gather_word(base: usize, n: usize, w: usize, word: u64, rows: &[u64], row: &m
     let mut left = word;
     while left != 0 {
         let t = u64::trailing_zeros(left) as usize;
-        join_rows(0, (base + t) * w, w, rows, row);
-        left = left & (left - 1);
+        let rest = left & (left - 1);
+        if rest == 0 {
+            join_rows(0, (base + t) * w, w, rows, row);
+            return;
+        }
+        let u = u64::trailing_zeros(rest) as usize;
+        join_two(0, (base + t) * w, (base + u) * w, w, rows, row);
+        left = rest & (rest - 1);
     }
 }
 

@@ -38,7 +38,7 @@ unfolding gain
 gain-long a b zero r l = refl
 gain-long a b (suc j) r l = let v = bitOr (getD l a 0) (getD r b 0) in gain-long (suc a) (suc b) j r (set l a v) ∙ length-set l a v
 
-gain-before : (a b j : ℕ) (r l : List ℕ) (i : ℕ) → i < a → getD (gain a b j r l) i 0 ≡ getD l i 0
+pub gain-before : (a b j : ℕ) (r l : List ℕ) (i : ℕ) → i < a → getD (gain a b j r l) i 0 ≡ getD l i 0
 unfolding gain
 gain-before a b zero r l i h = refl
 gain-before a b (suc j) r l i h =

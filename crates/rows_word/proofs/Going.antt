@@ -1,6 +1,6 @@
 -- Either of two lists by a test, and the loops over words in the terms of the code: a turn more, and the end.
-use Prim.Native.Nat.{ℕ, suc, _+_, _-_, _*_, _/_, _%_, _^_, _≤_, _<_}
-use mathlib.Core.Path.{_≡_, sym, ap, _∙_}
+use Prim.Native.Nat.{ℕ, zero, suc, _+_, _-_, _*_, _/_, _%_, _^_, _≤_, _<_}
+use mathlib.Core.Path.{_≡_, refl, sym, ap, _∙_}
 use mathlib.Core.Bool.{Bool, true, false, cond, not, _||_}
 use mathlib.Core.List.{List}
 use native.Mathlib.Omega.{arith}
@@ -8,11 +8,13 @@ use native.Mathlib.Nat.{one-mul}
 use native.Mathlib.Decide.{ℕ-discrete}
 use borrow.Author.Tests.{eq-eqb, ne-eqb}
 use lib.Dec.{eqb, lit<}
-use lib.ListN.{getD, set}
+use lib.ListN.{length, getD, set}
+use lib.Seq.{getD-set-same, getD-set-other, set-set, set-comm}
 use lib.Pow.{shl-exact}
 use lib.Bits.{bitOr, bitAnd, or-add-and, and-le-l, and-le-r}
 use Rattle.theory_laws.proofs.Booleans.{or-false, or-assoc}
 use Rattle.rows_steps.specs.Rows.{put, gain, meets}
+use Rattle.rows_steps.proofs.Places.{gain-before}
 
 -- Either of two lists, by a test p that was made.
 module _ {p q : Bool} (l r : List ℕ) (e : p ≡ q) where
@@ -48,6 +50,47 @@ module _ (a b w : ℕ) (r l : List ℕ) where
   pub gain-end : (j : ℕ) → w ≤ j → gain (a + j) (b + j) (w - j) r l ≡ l
   unfolding gain
   gain-end j h = let z : w - j ≡ 0 = omega arith in rw z
+
+-- A word before those that gain is written before or after.
+gain-set : (a b j : ℕ) (r l : List ℕ) (i v : ℕ) → i < a → set (gain a b j r l) i v ≡ gain a b j r (set l i v)
+unfolding gain
+gain-set a b zero r l i v h = refl
+gain-set a b (suc j) r l i v h =
+    let u = bitOr (getD l a 0) (getD r b 0) in
+    let other : a ≡ i → ⊥ = λ (e : a ≡ i). omega arith in
+    let same : getD (set l i v) a 0 ≡ getD l a 0 = getD-set-other l i a v 0 other in
+    gain-set (suc a) (suc b) j r (set l a u) i v (omega arith)
+    ∙ ap (gain (suc a) (suc b) j r) (set-comm l a i u v other ∙ ap (λ (x : ℕ). set (set l i v) a (bitOr x (getD r b 0))) (sym same))
+
+-- Two rows of r gained, one after the other: word by word, both at once.
+module _ (a b c w : ℕ) (r l : List ℕ) where
+  pub gain-two-start : gain a c w r (gain a b w r l) ≡ gain (a + 0) (c + 0) (w - 0) r (gain (a + 0) (b + 0) (w - 0) r l)
+  gain-two-start =
+      let p : a + 0 ≡ a = omega arith in
+      let q : b + 0 ≡ b = omega arith in
+      let s : c + 0 ≡ c = omega arith in
+      let z : w - 0 ≡ w = omega arith in
+      rw (p, q, s, z)
+
+  pub gain-two-go : (j : ℕ) → j < w → a + j < length l
+      → gain (a + j) (c + j) (w - j) r (gain (a + j) (b + j) (w - j) r l)
+      ≡ gain (a + (j + 1)) (c + (j + 1)) (w - (j + 1)) r
+      (gain (a + (j + 1)) (b + (j + 1)) (w - (j + 1)) r (set l (a + j) (bitOr (bitOr (getD l (a + j) 0) (getD r (b + j) 0)) (getD r (c + j) 0))))
+  gain-two-go j h g =
+      let u = bitOr (getD l (a + j) 0) (getD r (b + j) 0) in
+      let l₁ = set l (a + j) u in
+      let x = gain (a + (j + 1)) (b + (j + 1)) (w - (j + 1)) r l₁ in
+      let here : getD x (a + j) 0 ≡ u = gain-before (a + (j + 1)) (b + (j + 1)) (w - (j + 1)) r l₁ (a + j) (omega arith) ∙ getD-set-same l (a + j) u 0 g in
+      let v = bitOr u (getD r (c + j) 0) in
+      let put : set x (a + j) v ≡ gain (a + (j + 1)) (b + (j + 1)) (w - (j + 1)) r (set l (a + j) v) =
+      gain-set (a + (j + 1)) (b + (j + 1)) (w - (j + 1)) r l₁ (a + j) v (omega arith) ∙ ap (gain (a + (j + 1)) (b + (j + 1)) (w - (j + 1)) r) (set-set l (a + j) u v) in
+      ap (gain (a + j) (c + j) (w - j) r) (gain-go a b w r l j h)
+      ∙ gain-go a c w r x j h
+      ∙ ap (λ (t : ℕ). gain (a + (j + 1)) (c + (j + 1)) (w - (j + 1)) r (set x (a + j) (bitOr t (getD r (c + j) 0)))) here
+      ∙ ap (gain (a + (j + 1)) (c + (j + 1)) (w - (j + 1)) r) put
+
+  pub gain-two-end : (j : ℕ) → w ≤ j → gain (a + j) (c + j) (w - j) r (gain (a + j) (b + j) (w - j) r l) ≡ l
+  gain-two-end j h = gain-end a c w r (gain (a + j) (b + j) (w - j) r l) j h ∙ gain-end a b w r l j h
 
 -- Some bit is set in one of two words exactly if it is in their disjunction.
 some-or : (u v : ℕ) → not (eqb (bitOr u v) 0) ≡ (not (eqb u 0) || not (eqb v 0))

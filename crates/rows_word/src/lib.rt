@@ -49,6 +49,18 @@ pub fn join_rows(a: usize, b: usize, w: usize, others: &[u64], rows: &mut [u64])
     }
 }
 
+// The same of two rows of `others`, at places `b` and `c`: the row is read and written once for both.
+pub fn join_two(a: usize, b: usize, c: usize, w: usize, others: &[u64], rows: &mut [u64])
+    requires { ⌜ (a + w ≤ length (now rows)) × (b + w ≤ length (now others)) × (c + w ≤ length (now others)) ⌝ }
+    ensures { λ _. ⌜ now (rows .exit) ≡ gain a c w (now (others .entry)) (gain a b w (now (others .entry)) (now (rows .entry))) ⌝ }
+{
+    let mut j = 0;
+    while j < w {
+        rows[a + j] = rows[a + j] | others[b + j] | others[c + j];
+        j += 1;
+    }
+}
+
 // Whether the row at place `a` and the row of `others` at place `b` have a bit in common: one test for all words.
 pub fn rows_meet(a: usize, b: usize, w: usize, rows: &[u64], others: &[u64]) -> bool
     requires { ⌜ (a + w ≤ length (now rows)) × (b + w ≤ length (now others)) ⌝ }

@@ -1,2 +1,3 @@
 pub mod Links
+pub mod Blocks
 pub mod Folding

@@ -1,7 +1,9 @@
 // One command over the links that a set of origins chooses: the new marks are held pending in the marks themselves, and folded in afterwards. The loop that every scan runs.
 ghost use mathlib.Core.Path.{_≡_};
-ghost use Prim.Native.Nat.{_<_, _≤_};
-ghost use lib.ListN.{length};
+ghost use mathlib.Core.Bool.{false};
+ghost use Prim.Native.Nat.{ℕ, _+_, _<_, _≤_};
+ghost use lib.ListN.{length, getD};
+ghost use Rattle.theory.specs.Words.{parity};
 ghost use Rattle.theory.specs.Marks.{command};
 ghost use Rattle.theory.specs.Origins.{chosen, InsideFrom};
 ghost use Rattle.theory.specs.Growth.{Set};
@@ -9,11 +11,100 @@ ghost use Rattle.scan_start.specs.Starts.{Low};
 ghost use Rattle.scan_link.specs.Asks.{Small};
 ghost use Rattle.scan_link.specs.Classes.{Tests};
 ghost use Rattle.scan_link.specs.Pending.{settle, Free};
+ghost use Rattle.scan_command.specs.Followed.{Followed};
 use scan_link::follow;
 use scan_link::tests_of;
 use theory::Command;
 
-// The chosen links in turn, their new marks pending; whether one of them set a mark.
+// How many words are looked at together.
+const BLOCK: usize = 8;
+
+// How many of the words of a block say "is not".
+fn count_isnt(words: &[u32], from: usize) -> u32
+    requires { ⌜ from + 8 ≤ length (now words) ⌝ }
+    ensures { λ r. ⌜ (r ≡ 0 → (k : ℕ) → k < 8 → parity (getD (now (words .entry)) (from + k) 0) ≡ 0) ⌝ }
+    ensures { λ r. ⌜ (r ≡ 8 → (k : ℕ) → k < 8 → parity (getD (now (words .entry)) (from + k) 0) ≡ 1) ⌝ }
+{
+    let mut count = 0;
+    let mut k = 0;
+    while k < BLOCK {
+        count += words[from + k] % 2;
+        k += 1;
+    }
+    count
+}
+
+// Whether one of the words of a block has the sign: where none has, all of them are passed over.
+fn has_sign(sign: u32, words: &[u32], from: usize) -> bool
+    requires { ⌜ from + 8 ≤ length (now words) ⌝ }
+    ensures { λ r. ⌜ (r ≡ false → (k : ℕ) → k < 8 → parity (getD (now (words .entry)) (from + k) 0) ≡ sign → ⊥) ⌝ }
+{
+    let count = count_isnt(words, from);
+    if sign == 0 {
+        return count != 8;
+    }
+    count != 0
+}
+
+// The chosen links of a block in turn, their new marks pending; whether one of them set a mark.
+fn follow_block(
+    set: u32,
+    c: Command,
+    tests: &[u8; 8],
+    n: usize,
+    words: &[u32],
+    from: usize,
+    marks: &mut [u8],
+) -> bool
+    requires small { ⌜ Small c ⌝ }
+    requires table { ⌜ Tests set c (now tests) ⌝ }
+    requires inside { ⌜ InsideFrom n (now words) ⌝ }
+    requires block { ⌜ from + 8 ≤ length (now words) ⌝ }
+    requires room { ⌜ n ≤ length (now marks) ⌝ }
+    requires free { ⌜ Free n (now marks) ⌝ }
+    ensures { λ r. ⌜ Followed set c n (now (words .entry)) from (from + 8) r (now (marks .entry)) (now (marks .exit)) ⌝ }
+{
+    let mut marked = false;
+    let mut k = 0;
+    while k < BLOCK {
+        if follow(set, c, tests, n, words[from + k], marks) {
+            marked = true;
+        }
+        k += 1;
+    }
+    marked
+}
+
+// The same of all words from `from` on.
+fn follow_rest(
+    set: u32,
+    c: Command,
+    tests: &[u8; 8],
+    n: usize,
+    words: &[u32],
+    from: usize,
+    marks: &mut [u8],
+) -> bool
+    requires small { ⌜ Small c ⌝ }
+    requires table { ⌜ Tests set c (now tests) ⌝ }
+    requires inside { ⌜ InsideFrom n (now words) ⌝ }
+    requires rest { ⌜ from ≤ length (now words) ⌝ }
+    requires room { ⌜ n ≤ length (now marks) ⌝ }
+    requires free { ⌜ Free n (now marks) ⌝ }
+    ensures { λ r. ⌜ Followed set c n (now (words .entry)) from (length (now (words .entry))) r (now (marks .entry)) (now (marks .exit)) ⌝ }
+{
+    let mut marked = false;
+    let mut i = from;
+    while i < words.len() {
+        if follow(set, c, tests, n, words[i], marks) {
+            marked = true;
+        }
+        i += 1;
+    }
+    marked
+}
+
+// The chosen links in turn, their new marks pending; whether one of them set a mark. Blocks in which no word has the command's sign are passed over.
 fn follow_all(
     set: u32,
     c: Command,
@@ -32,15 +123,19 @@ fn follow_all(
     ensures { λ r. ⌜ Set r (now (marks .entry)) (now (marks .exit)) ⌝ }
     ensures { λ r. ⌜ Free n (now (marks .exit)) ⌝ }
 {
+    let sign = c.sign;
     let mut changed = false;
     let mut i = 0;
-    while i < words.len() {
-        if follow(set, c, tests, n, words[i], marks) {
-            changed = true;
+    while BLOCK <= words.len() - i {
+        let from = i;
+        i += BLOCK;
+        if has_sign(sign, words, from) {
+            let more = follow_block(set, c, tests, n, words, from, marks);
+            changed = changed | more;
         }
-        i += 1;
     }
-    changed
+    let more = follow_rest(set, c, tests, n, words, i, marks);
+    changed | more
 }
 
 // The pending marks of `n` nodes folded into marker `put`.

@@ -55,6 +55,11 @@ and-either : (j b : ℕ) → j < 3 → b < 16 → some (bitAnd b (bitOr (2 ^ j) 
 unfolding upto
 and-either = each (λ j b. some (bitAnd b (bitOr (2 ^ j) (2 ^ P)))) (λ j b. cond (has j b || has P b) 1 0) refl
 
+-- The same three places up.
+and-above : (j b : ℕ) → j < 3 → b < 16 → bitAnd (b * 8) (bitOr (2 ^ (j + 3)) (2 ^ (P + 3))) ≡ bitAnd b (bitOr (2 ^ j) (2 ^ P)) * 8
+unfolding upto
+and-above = each (λ j b. bitAnd (b * 8) (bitOr (2 ^ (j + 3)) (2 ^ (P + 3)))) (λ j b. bitAnd b (bitOr (2 ^ j) (2 ^ P)) * 8) refl
+
 and-test : (j b : ℕ) → j < 3 → b < 16 → (q : Bool) → bitAnd b (cond q (2 ^ j) 0) ≡ cond (q && has j b) (2 ^ j) 0
 and-test j b l h true = and-marker j b l h
 and-test j b l h false = and-zero-r b
@@ -105,10 +110,10 @@ module _ {n w : ℕ} (c : Command) (ends : EndsFrom n w) {p v : ℕ} (h : p ≡ 
   pub far-inside : v ≡ far (c .«at_head») p → v < n
   far-inside e = rw (e, h) (far-in (c .«at_head») (ends .ends))
 
--- The code found the plain word p, its ends `at` and `to`, the class k, and the bits a of the marker and b of the pending one.
+-- The code found the plain word p, its ends `at` and `to`, the class k, and the bits a of the marker and b of the pending one, three places up.
 module _ (os : ℕ) (c : Command) (n w : ℕ) (ts m : List ℕ) (small : Small c) (table : Tests os c ts) (ends : EndsFrom n w) (room : n ≤ length m) (free : Free n m)
     {p at to k a b : ℕ} (hp : p ≡ plainOf w) (hat : at ≡ near (c .«at_head») p) (hto : to ≡ far (c .«at_head») p) (hk : k ≡ classOf w)
-    (ha : a ≡ 2 ^ c .put) (hb : b ≡ 2 ^ P) where
+    (ha : a ≡ 2 ^ (c .put + 3)) (hb : b ≡ 2 ^ (P + 3)) where
   abbrev at-in : at < n
   at-in = near-inside c ends hp hat
 
@@ -130,8 +135,14 @@ module _ (os : ℕ) (c : Command) (n w : ℕ) (ts m : List ℕ) (small : Small c
   abbrev had : Bool
   had = has (c .put) (getD m to 0) || has P (getD m to 0)
 
-  had-number : some (bitAnd (getD m to 0) (bitOr a b)) ≡ cond had 1 0
-  had-number = rw (ha, hb) (and-either (c .put) (getD m to 0) (small .put-small) (free to to-in))
+  abbrev both : ℕ
+  both = bitAnd (getD m to 0) (bitOr (2 ^ c .put) (2 ^ P))
+
+  had-number : some both ≡ cond had 1 0
+  had-number = and-either (c .put) (getD m to 0) (small .put-small) (free to to-in)
+
+  above-number : bitAnd (getD m to 0 * 8) (bitOr a b) ≡ both * 8
+  above-number = rw (ha, hb) (and-above (c .put) (getD m to 0) (small .put-small) (free to to-in))
 
   -- So has what the marks stand for.
   had-settled : has (c .put) (getD (settle (c .put) n m) to 0) ≡ had
@@ -146,20 +157,20 @@ module _ (os : ℕ) (c : Command) (n w : ℕ) (ts m : List ℕ) (small : Small c
   idle true e h = sym (does true e ∙ mark-had (c .put) to (settle (c .put) n m) (had-settled ∙ h refl))
 
   -- A word that does not go, or whose other end has the marker or a pending one, does nothing.
-  pub follow-idle : bitAnd (getD m at 0) (getD ts k 0) ≤ bitAnd (getD m to 0) (bitOr a b) * 8 → Followed os c n w false m m
+  pub follow-idle : bitAnd (getD m at 0) (getD ts k 0) ≤ bitAnd (getD m to 0 * 8) (bitOr a b) → Followed os c n w false m m
   follow-idle l =
-      let i : cond (goes os c m w) (2 ^ c .test) 0 ≤ bitAnd (getD m to 0) (bitOr a b) * 8 = rw fires-number at l in (
-        idle (goes os c m w) refl (most-idle (c .test) (bitAnd (getD m to 0) (bitOr a b)) (small .test-small) (goes os c m w) had had-number i),
+      let i : cond (goes os c m w) (2 ^ c .test) 0 ≤ both * 8 = rw (fires-number, above-number) at l in (
+        idle (goes os c m w) refl (most-idle (c .test) both (small .test-small) (goes os c m w) had had-number i),
         (kept, (kept, (λ v k j h. refl, free))),
       )
 
   -- Any other puts a pending mark.
-  pub follow-new : bitAnd (getD m to 0) (bitOr a b) * 8 < bitAnd (getD m at 0) (getD ts k 0) → {b′ : ℕ} → b′ ≡ 2 ^ P
+  pub follow-new : bitAnd (getD m to 0 * 8) (bitOr a b) < bitAnd (getD m at 0) (getD ts k 0) → {b′ : ℕ} → b′ ≡ 2 ^ P
       → Followed os c n w true m (set m to (bitOr (getD m to 0) b′))
   unfolding mark
   follow-new l h =
-      let i : bitAnd (getD m to 0) (bitOr a b) * 8 < cond (goes os c m w) (2 ^ c .test) 0 = rw fires-number at l in
-      let t = less-new (c .test) (bitAnd (getD m to 0) (bitOr a b)) (small .test-small) (goes os c m w) had had-number i in
+      let i : both * 8 < cond (goes os c m w) (2 ^ c .test) 0 = rw (fires-number, above-number) at l in
+      let t = less-new (c .test) both (small .test-small) (goes os c m w) had had-number i in
       let y : settle (c .put) n (mark P to m) ≡ mark (c .put) to (settle (c .put) n m) = settle-mark (c .put) n to m to-in room free in
       let grows : Set true (settle (c .put) n m) (mark (c .put) to (settle (c .put) n m)) =
       mark-more (c .put) to (settle (c .put) n m) (omega (arith, to-in, settle-length (c .put) n m)) (had-settled ∙ t .0) in

@@ -96,7 +96,7 @@ pub fn far_of(at_head: bool, word: u32) -> usize
 }
 
 // One word, its new mark pending; whether it set one. No byte is tested for the pending marker, so the marks of the command's beginning are tested.
-// One comparison asks both, whether the word fires and whether its mark is new: `fires` is at most 4, and `had * 8` is 0 or at least 8.
+// One comparison asks both, whether the word fires and whether its mark is new: `fires` is at most 4, and `had`, three places up, is 0 or at least 8.
 pub fn follow(set: u32, c: Command, tests: &[u8; 8], n: usize, word: u32, marks: &mut [u8]) -> bool
     requires small { ⌜ Small c ⌝ }
     requires table { ⌜ Tests set c (now tests) ⌝ }
@@ -116,8 +116,8 @@ pub fn follow(set: u32, c: Command, tests: &[u8; 8], n: usize, word: u32, marks:
     let far = far_of(at_head, plain);
     let byte = marks[far];
     let fires = marks[near] & tests[class_of(word)];
-    let had = byte & (bit_of(put) | bit_of(PENDING));
-    if had * 8 < fires {
+    let had = byte * 8 & (bit_of(put + 3) | bit_of(PENDING + 3));
+    if had < fires {
         marks[far] = byte | bit_of(PENDING);
         return true;
     }

@@ -133,7 +133,8 @@ returns c =
     let s = c .before .before .before .before .before in
     let a = s .args in
     let e : l .x ≡ a .n = omega (arith, l .inv .0, c .loop-test .left) in
-    (l .inv .5 ∙ ap (λ (i : List ℕ). over i (a .list .now)) (ap (rows (a .o) (a .k) (chosen (a .set) (a .words .now)) 0) e ∙ rows-all (a .o) (a .k) (chosen (a .set) (a .words .now)) (a .n) (s .pre .1 .0)), (l .inv .2, l .inv .1))
+    let all = ap (rows (a .o) (a .k) (chosen (a .set) (a .words .now)) 0) e ∙ rows-all (a .o) (a .k) (chosen (a .set) (a .words .now)) (a .n) (s .pre .1 .0) in
+    (l .inv .4 ∙ ap length all, (l .inv .5 ∙ ap (λ (i : List ℕ). over i (a .list .now)) all, (l .inv .2, l .inv .1)))
 
 pub write-rows-spec : {M : Type 1} → statement M
 write-rows-spec =

@@ -1,74 +1,77 @@
--- The chosen links still to come, from what the marks stand for, give what all chosen links give from the marks at the beginning.
-use Prim.Native.Nat.{_-_, _≤_}
-use mathlib.Core.Path.{_≡_, refl, sym, _∙_}
-use mathlib.Core.Logic.{⊎-elim}
+-- The words up to the block that the loop has come to were followed, or could do nothing.
+use Prim.Native.Nat.{_+_, _-_, _≤_}
+use mathlib.Core.Path.{_≡_, refl, _∙_}
 use borrow.Author.Needs.{needs}
 use native.Mathlib.Omega.{arith}
-use lib.ListN.{length, drop}
-use Rattle.theory.specs.Marks.{links, command}
-use Rattle.theory.specs.Growth.{Set, kept}
-use Rattle.theory.specs.Origins.{chosen}
-use Rattle.theory.proofs.origins.Statements.{inside-from-at}
-use Rattle.theory.proofs.origins.Folds.{chosen-links-end}
-use Rattle.theory.proofs.machine.Growth.{set-then}
-use Rattle.scan_link.specs.Pending.{settle, Free, Held}
-use Rattle.scan_link.proofs.Pending.{settle-low}
-use Rattle.scan_command.proofs.Links.{links-more, flag-set, flag-kept}
+use lib.ListN.{length}
+use Rattle.scan_command.specs.Followed.{Followed}
+use Rattle.scan_command.proofs.Links.{followed-none, followed-then, followed-past, followed-all}
 use Rattle.scan_command.proofs.follow_all.Statement.{statement}
 use Rattle.scan_command.proofs.follow_all.Tie as tie
 
 abbrev Inv-loop : tie.InvT-loop
-Inv-loop set c tests n words marks₀ changed₀ i₀ marks changed i =
-    (i ≤ length words) × (length marks ≡ length marks₀)
-    × (links c marks₀ (chosen set words) marks₀ ≡ links c marks₀ (chosen set (drop i words)) (settle (c .put) n marks))
-    × Set changed marks₀ (settle (c .put) n marks) × Set changed marks₀ marks × Held n marks₀ marks × Free n marks
+Inv-loop set c tests n words marks₀ sign changed₀ i₀ marks changed i =
+    (i ≤ length words) × (length marks ≡ length marks₀) × Followed set c n words 0 i changed marks₀ marks
 
 abbrev μ-loop : tie.MeasureT-loop
-μ-loop set c tests n words marks₀ changed₀ i₀ marks changed i = length words - i
+μ-loop set c tests n words marks₀ sign changed₀ i₀ marks changed i = length words - i
 
 loop-holds : tie.Need-loop-holds Inv-loop μ-loop
 loop-holds c =
     let s = c .before .before in
     let a = s .args in
-    let e : settle (a .c .put) (a .n) (a .marks .now) ≡ a .marks .now = settle-low (a .c .put) (a .n) (a .marks .now) (s .pre .1 .1 .1 .1) in
-    (search needs, refl, rw e refl, rw e kept, kept, λ v l j k. refl, λ v l. omega (arith, s .pre .1 .1 .1 .1 v l))
+    (search needs, refl, followed-none (a .set) (a .c) (a .n) (a .words .now) refl (λ v l. omega (arith, s .pre .1 .1 .1 .1 v l)))
 
-follow-requires : tie.Need-follow-requires Inv-loop μ-loop
-follow-requires c κs =
-    let at = c .before .before .before in
+has-sign-requires : tie.Need-has-sign-requires Inv-loop μ-loop
+has-sign-requires c κs = omega (arith, c .loop-test .taken, c .before .loop .inv .0)
+
+follow-block-requires : tie.Need-follow-block-requires Inv-loop μ-loop
+follow-block-requires c κs =
+    let inside = c .before .before .before in
+    let at = inside .before in
     let s = at .before .before .before in
-    (s .pre .0, (s .pre .1 .0, (inside-from-at (s .args .words .now) (s .pre .1 .1 .0) (at .loop .i) (omega arith), (omega arith, at .loop .inv .6))))
+    let p = s .pre in
+    (p .0, (p .1 .0, (p .1 .1 .0, (omega (arith, inside .loop-test .taken, at .loop .inv .0), (omega (arith, at .loop .inv .1, p .1 .1 .1 .0), at .loop .inv .2 .free)))))
 
 loop-again : tie.Need-loop-again Inv-loop μ-loop
 loop-again c =
-    let at = c .before .before .before .before .before .before .before in
-    let s = at .before .before .before in
-    let a = s .args in
-    let inv = at .loop .inv in
-    let f = c .before .before .before .follow in
-    let flag = ⊎-elim (λ w. flag-set (at .loop .changed) (w .0 .taken) (w .1)) (λ w. flag-kept (at .loop .changed) (w .0 .left) (w .1)) (c .if1 .came) in (
-      omega arith,
-      f .kept .1 .1 .1 .1 .1 .0 ∙ inv .1,
-      links-more (a .set) (a .c) (a .n) (a .marks .now) (at .loop .marks) (s .pre .0) (inv .5) (a .words .now) (at .loop .i)
-          (settle (a .c .put) (a .n) (f .last .1 .1 .1 .1 .1 .0)) (s .pre .1 .1 .0) (omega arith) (inv .2) (f .ensures .0),
-      rw flag (set-then (inv .3) (f .ensures .1 .0)),
-      rw flag (set-then (inv .4) (f .ensures .1 .1 .0)),
-      λ v l j k. f .ensures .1 .1 .1 .0 v l j k ∙ inv .5 v l j k,
-      f .ensures .1 .1 .1 .1,
+    let f = c .before .before .follow-block in
+    let inside = c .before .before .before .before .before .before in
+    let at = inside .before in
+    let a = at .before .before .before .args in (
+      omega (arith, inside .loop-test .taken, at .loop .inv .0),
+      f .kept .1 .1 .1 .1 .1 .1 .0 ∙ at .loop .inv .1,
+      followed-then (a .set) (a .c) (a .n) (a .words .now) (at .loop .inv .2) (f .ensures),
     )
+
+loop-again-2 : tie.Need-loop-again-2 Inv-loop μ-loop
+loop-again-2 c =
+    let told = c .before in
+    let inside = told .before in
+    let at = inside .before in
+    let a = at .before .before .before .args in
+    let room : at .loop .i + 8 ≤ length (a .words .now) = omega (arith, inside .loop-test .taken, at .loop .inv .0) in
+    (room, at .loop .inv .1, followed-past (a .set) (a .c) (a .n) (a .words .now) (at .loop .inv .2) 8 room (told .has-sign .ensures (c .if1 .left)))
+
+follow-rest-requires : tie.Need-follow-rest-requires Inv-loop μ-loop
+follow-rest-requires c κs =
+    let at = c .before .before in
+    let p = at .before .before .before .pre in
+    (p .0, (p .1 .0, (p .1 .1 .0, (at .loop .inv .0, (omega (arith, at .loop .inv .1, p .1 .1 .1 .0), at .loop .inv .2 .free)))))
 
 same-length : tie.Need-same-length Inv-loop μ-loop
-same-length c = c .before .loop .inv .1
+same-length c =
+    let f = c .before .before .follow-rest in
+    f .kept .1 .1 .1 .1 .1 .1 .0 ∙ c .before .before .before .before .before .loop .inv .1
 
 returns : tie.Need-returns Inv-loop μ-loop
-unfolding command
 returns c =
-    let at = c .before in
-    let a = at .before .before .before .args in
-    let inv = at .loop .inv in (
-      sym (inv .2 ∙ chosen-links-end (a .set) (a .c) (a .marks .now) (a .words .now) (at .loop .i) (settle (a .c .put) (a .n) (at .loop .marks)) (omega arith)),
-      (inv .3, (inv .4, inv .6)),
-    )
+    let f = c .before .before .follow-rest in
+    let at = c .before .before .before .before .before in
+    let s = at .before .before .before in
+    let a = s .args in
+    followed-all (a .set) (a .c) (a .n) (a .words .now) (s .pre .1 .1 .1 .1)
+    (followed-then (a .set) (a .c) (a .n) (a .words .now) (at .loop .inv .2) (f .ensures))
 
 pub follow-all-spec : {M : Type 1} → statement M
 follow-all-spec =
@@ -79,9 +82,12 @@ follow-all-spec =
     loop-holds
     (search needs)
     (search needs)
-    follow-requires
-    (search needs)
+    has-sign-requires
+    follow-block-requires
     (search needs)
     loop-again
+    (search needs)
+    loop-again-2
+    follow-rest-requires
     same-length
     returns)

@@ -1,8 +1,6 @@
 -- The comparison decides: nothing is done, or a pending mark is put.
 use borrow.Author.Needs.{needs}
 use native.Mathlib.Omega.{arith}
-use lib.Bits.{bitOr, and-le-l}
-use lib.ListN.{getD}
 use Rattle.scan_link.proofs.Following.{near-inside, far-inside, follow-idle, follow-new}
 use Rattle.scan_link.proofs.follow.Statement.{statement}
 use Rattle.scan_link.proofs.follow.Tie as tie
@@ -19,16 +17,20 @@ slice-read-fires c =
     let s = near .before .before .before in
     omega (arith, near-inside (s .args .c) (s .pre .1 .1 .0) (near .before .plain-of .ensures) (near .near-of .ensures))
 
-mul-if1 : tie.Need-mul-if1
-mul-if1 c =
-    let far = c .before .before .before .before .before .before in
+mul-had : tie.Need-mul-had
+mul-had c =
+    let far = c .before .before .before .before in
     let s = far .before .before .before .before in
-    let b = getD (s .args .marks .now) (far .far-of .result) 0 in
     omega (
       arith,
-      and-le-l b (bitOr (c .before .bit-of .result) (c .bit-of2 .result)),
       s .pre .1 .1 .1 .1 (far .far-of .result) (far-inside (s .args .c) (s .pre .1 .1 .0) (far .before .before .plain-of .ensures) (far .far-of .ensures)),
     )
+
+add-bit-of : tie.Need-add-bit-of
+add-bit-of c = let s = c .before .before .before .before .before .before .before .before in omega (arith, s .pre .0 .put-small)
+
+bit-of-requires : tie.Need-bit-of-requires
+bit-of-requires c κs = let s = c .before .before .before .before .before .before .before .before in omega (arith, s .pre .0 .put-small)
 
 slice-write-marks : tie.Need-slice-write-marks
 slice-write-marks c =
@@ -67,9 +69,11 @@ follow-spec =
     slice-read-fires
     (λ c κs. search needs)
     (λ c. search needs)
+    mul-had
+    add-bit-of
+    bit-of-requires
+    (λ c. search needs)
     (λ c κs. search needs)
-    (λ c κs. search needs)
-    mul-if1
     (λ c κs. search needs)
     slice-write-marks
     (λ c. search needs)
