@@ -94,6 +94,12 @@ fn join(row: &mut [u64], other: &[u64]) {
     }
 }
 
+fn join_two(row: &mut [u64], other: &[u64], third: &[u64]) {
+    for ((word, more), most) in row.iter_mut().zip(other).zip(third) {
+        *word |= more | most;
+    }
+}
+
 fn meet(row: &[u64], other: &[u64]) -> bool {
     let both = row.iter().zip(other).fold(0, |sum, (a, b)| sum | a & b);
     both != 0
@@ -114,7 +120,7 @@ fn close<const SIZE: usize>(objects: usize, nodes: usize, yes: &mut [u64]) {
     }
 }
 
-/// What x is, is not something: neither is x.
+/// What x is, is not something: neither is x. Rows are joined two at a time.
 fn gather<const SIZE: usize>(nodes: usize, yes: &[u64], no: &mut [u64]) {
     let size = size_of::<SIZE>(nodes);
     let mut held = [0; ROW_LIMIT];
@@ -122,7 +128,21 @@ fn gather<const SIZE: usize>(nodes: usize, yes: &[u64], no: &mut [u64]) {
     for (x, kinds) in yes.chunks_exact(size).enumerate() {
         let place = x * size..(x + 1) * size;
         held.copy_from_slice(&no[place.clone()]);
-        each(kinds, |q| join(held, &no[q * size..(q + 1) * size]));
+        let row = |q: usize| &no[q * size..(q + 1) * size];
+        for (at, &word) in kinds.iter().enumerate() {
+            let mut left = word;
+            while left != 0 {
+                let q = 64 * at + left.trailing_zeros() as usize;
+                let rest = left & (left - 1);
+                if rest == 0 {
+                    join(held, row(q));
+                    break;
+                }
+                let p = 64 * at + rest.trailing_zeros() as usize;
+                join_two(held, row(q), row(p));
+                left = rest & (rest - 1);
+            }
+        }
         no[place].copy_from_slice(held);
     }
 }
@@ -139,17 +159,6 @@ fn pass_down<const SIZE: usize>(objects: usize, nodes: usize, yes: &[u64], no: &
             if !has(row, y) && meet(kind, row) {
                 put(row, y);
             }
-        }
-    }
-}
-
-/// Each bit of a row that is set, by the trailing zeros of its words.
-fn each(row: &[u64], mut take: impl FnMut(usize)) {
-    for (at, &word) in row.iter().enumerate() {
-        let mut left = word;
-        while left != 0 {
-            take(64 * at + left.trailing_zeros() as usize);
-            left &= left - 1;
         }
     }
 }

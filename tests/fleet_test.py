@@ -319,6 +319,26 @@ class Tools(unittest.TestCase):
         self.assertEqual(self.tool("add_totals", given=b""), b"total 0 0 0 0 0 0 0 0\n")
         for wrong in [b"refused 14\ntotal 0 0 0 0 0 0 0 0\n", b"1 2 3\n", b"refused 9\n", b"total 1 2 3\n", b"\n", b"refused\n", b"0 0 0 0 0 0 0 -1\n"]:
             self.assertNotIn(b"total", self.tool("add_totals", given=wrong, status=1))
+        for wrong in ["refused \u00b2\ntotal 0 0 0 0 0 0 0 0\n".encode(), b"0 1 0 0 0 0 0 0\ntotal 0 2 0 0 0 0 0 0\n", b"0 1 0 0 0 0 0 0\ntotal 0 0 0 0 0 0 0 0\n"]:
+            self.assertNotIn(b"total", self.tool("add_totals", given=wrong, status=1))
+
+    def test_every_sheet_is_whole(self):
+        whole = b"0 1 0 0 0 0 0 0\ntotal 0 1 0 0 0 0 0 0\n"
+        with tempfile.TemporaryDirectory() as folder:
+            named = [os.path.join(folder, name) for name in ("one", "two")]
+            for wrong in [b"", b"0 1 0 0 0 0 0 0\n", b"refused 9\n"]:
+                for sheets in [(wrong, whole), (whole, wrong)]:
+                    for path, sheet in zip(named, sheets):
+                        pathlib.Path(path).write_bytes(sheet)
+                    for words in [[], ["--total"]]:
+                        self.assertNotIn(b"total", self.tool("add_totals", *words, *named, status=1))
+        lines = sorted((whole + whole).splitlines(keepends=True))
+        self.assertEqual(self.tool("add_totals", "--total", given=b"".join(lines)), b"total 0 2 0 0 0 0 0 0\n")
+        self.assertEqual(self.tool("add_totals", "--total", given=b"".join(lines[2:])), b"total 0 2 0 0 0 0 0 0\n")
+
+    def test_names_at_fault(self):
+        self.tool("pack", "--list", "", status=1)
+        self.tool("pack", "--list", "-", given=b"one\0two\n", status=1)
 
 
 if __name__ == "__main__":

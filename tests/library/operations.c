@@ -86,7 +86,7 @@ struct operation {
     _(proof_check, "o k words set node kind sign proof",                                        \
       "0 1 2 15 3 4 12=0 12=4294967295 12", ONCE,                                               \
       NET, NUMBER(4), NUMBER(5), NUMBER(6), WORDS(7))                                           \
-    _(unit, "o k words set program commands marks", "0 0=0 1 2 15 3 5 16 16=0 6 6=0", ONCE,     \
+    _(unit, "o k words set program commands marks", "0=0 0 1 2 15 3 5 16=0 16 6=0 6", ONCE,     \
       NET, WORDS(4), NUMBER(5), BYTES(6))
 
 static void take(struct strumelka_answer given, uint32_t answer[3])

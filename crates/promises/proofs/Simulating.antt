@@ -1,13 +1,14 @@
 -- The marker unit does what is promised of it.
-use Prim.Native.Nat.{ℕ, _+_, _*_, _≤_, _<_}
+use Prim.Native.Nat.{ℕ, _+_, _-_, _*_, _/_, _≤_, _<_}
 use mathlib.Core.Path.{_≡_, refl, sym, ap, _∙_}
 use mathlib.Core.Bool.{Bool, true, false, cond, not}
 use mathlib.Core.List.{List, _++_}
+use mathlib.Core.Logic.{_↔_}
 use native.Mathlib.Omega.{arith}
 use lib.Dec.{ltb}
 use lib.ListN.{length, take, drop}
-use borrow.Author.Tests.{leb-false, ltb-true, ltb-false, le-ltb}
-use Rattle.theory.specs.Scans.{Scan, fullBudget, fullScan}
+use borrow.Author.Tests.{leb-false, ltb-true, ltb-false, le-ltb, lt-leb, not-true}
+use Rattle.theory.specs.Scans.{Scan, scan, fullBudget, fullScan}
 use Rattle.theory.specs.Origins.{chosen}
 use Rattle.net.specs.declared.Refusal.{Refusal}
 use Rattle.net.proofs.NetCheck.{net-is-checked}
@@ -23,11 +24,12 @@ use Rattle.unit_program.specs.Merged.{merged}
 use Rattle.unit_program.proofs.FirstFault.{first-wrong, first-wrong-unique}
 use Rattle.unit_program.proofs.Stepping.{run-steps}
 use Rattle.unit_program.proofs.Determined.{runs-unique}
-use Rattle.unit.specs.Table.{UnitOutcome, unitOutcome, toldPlace, unitClauses, unitDone, simulated}
+use Rattle.unit_program.proofs.MergedScan.{merged-sound}
+use Rattle.unit.specs.Table.{UnitOutcome, unitOutcome, toldPlace, unitClauses, unitDone, simulated, simulatedReply}
 use Rattle.unit.specs.declared.Simulated.{Simulated}
 use Rattle.unit.specs.declared.Simulated.the-variants as simulatedAs
 use Rattle.unit.proofs.Outcomes.{told-near}
-use Rattle.unit.proofs.Merged.{merged-simulated, merged-short}
+use Rattle.unit.proofs.Merged.{merged-simulated, merged-short, merged-as-scan}
 use Rattle.promises.specs.Engines.{Read, ours}
 use Rattle.promises.specs.Simulating.{Simulating}
 use Rattle.promises.proofs.Demand1.{scan-obeys, unit-obeys}
@@ -99,10 +101,50 @@ module _ (o k : ℕ) (ws : List ℕ) (set x budget : ℕ) (m : List ℕ) (count 
       let t = was .counted in
       merged-short o k ws set (was .read .allowed) (was .read .net) x (was .node) m (was .room) budget (omega (arith, t, h))
 
+-- The written program, and the scan with as many rounds as its budget has fives.
+module _ (o k : ℕ) (ws : List ℕ) (set x budget : ℕ) (m : List ℕ) (read : Read o k ws set) (node : x < o + k) (room : o + k ≤ length m) where
+  abbrev rounds : ℕ
+  rounds = (budget - 3) / 5
+
+  abbrev ran : Scan
+  ran = run (o + k) (chosen set ws) (merged x) budget (take (o + k) m)
+
+  sound : ltb (firstFault (o + k) (merged x)) (length (merged x)) ≡ false
+  sound = ap (λ (i : ℕ). ltb i (length (merged x))) (merged-sound (o + k) x node (read .net .few))
+
+  -- What the unit answers, by its run.
+  by-run : simulated o k ws set (merged x) budget m .answer ≡ cond (ran .done) (simulatedAs.Done (ran .count)) (simulatedAs.Spent budget)
+  by-run =
+      ap (λ (q : UnitOutcome). q .answer)
+      (steps-given o k ws set (merged x) budget m read room (sound-exactly (o + k) (merged x) .0 sound) ran
+      (run-steps (o + k) (chosen set ws) (merged x) (whole (o + k) (merged x) sound) budget (take (o + k) m)))
+
+  spent-only : (d : Bool) (count : ℕ) → cond d (simulatedAs.Done count) (simulatedAs.Spent budget) ≡ simulatedAs.Spent budget → d ≡ false
+  spent-only true count e = absurd (omega (arith, ap (λ (r : Simulated). simulatedReply r .number) e))
+  spent-only false count e = refl
+
+  -- The scan is spent exactly if it is not done within its rounds.
+  scan-spent : (scanned o k ws set x rounds m .answer ≡ answer.Spent rounds) ↔ (scan (o + k) (chosen set ws) x rounds .done ≡ false)
+  scan-spent = (
+    (λ e. not-true (scan (o + k) (chosen set ws) x rounds .done) (scan-obeys o k ws set x rounds m .exactly 6 .0 (ap (λ (r : Scanned). scanReply r .number) e) .1 .1 .1 .1 .1 .1)),
+    λ e.
+        let t = past-checks o k ws set .1 read in
+        ap (λ (r : ScanOutcome). r .answer)
+        (scan-obeys o k ws set x rounds m .leaves 6 (t .0, (t .1, (t .2, (t .3, (lt-leb (o + k) x node, (le-ltb (length m) (o + k) room, rw e))))))),
+  )
+
+  matching-given : (simulated o k ws set (merged x) budget m .answer ≡ simulatedAs.Spent budget) ↔ (scanned o k ws set x rounds m .answer ≡ answer.Spent rounds)
+  matching-given =
+      let same = merged-as-scan o k ws set (read .allowed) (read .net) x node m room budget in (
+        (λ e. scan-spent .1 (sym same ∙ spent-only (ran .done) (ran .count) (sym by-run ∙ e))),
+        λ e. by-run ∙ ap (λ (d : Bool). cond d (simulatedAs.Done (ran .count)) (simulatedAs.Spent budget)) (same ∙ scan-spent .0 e),
+      )
+
 pub simulating : Simulating ours
 simulating = record {
   steps = λ o k ws set program budget m read room h r s. steps-given o k ws set program budget m read room h r s;
   fault = λ o k ws set program budget m read room p w h. fault-given o k ws set program budget m read room p w h;
   written = λ o k ws set x budget m count e h. written-given o k ws set x budget m count e h;
   short = λ o k ws set x budget m count e h. short-given o k ws set x budget m count e h;
+  matching = λ o k ws set x budget m read node room. matching-given o k ws set x budget m read node room;
 }

@@ -1,9 +1,10 @@
 -- What the marker unit promises ([13]): it gives what the steps of its program come to, it tells the first place at fault, and the program that is written for
 -- the merged scan leaves the scan's marks.
-use Prim.Native.Nat.{ℕ, _+_, _*_, _≤_, _<_}
+use Prim.Native.Nat.{ℕ, _+_, _-_, _*_, _/_, _≤_, _<_}
 use mathlib.Core.Path.{_≡_}
 use mathlib.Core.Bool.{cond}
 use mathlib.Core.List.{List, _++_}
+use mathlib.Core.Logic.{_↔_}
 use lib.ListN.{length, take, drop}
 use Rattle.theory.specs.Scans.{Scan, fullBudget}
 use Rattle.theory.specs.Origins.{chosen}
@@ -30,3 +31,6 @@ pub record Simulating (e : Engine) : Type 0 where
   -- A smaller budget is spent.
   pub short : (o k : ℕ) (ws : List ℕ) (set x budget : ℕ) (m : List ℕ) (count : ℕ) → e .scan o k ws set x (fullBudget (o + k)) m .answer ≡ scanned.Done count → budget < 3 + 5 * count
       → e .unit o k ws set (merged x) budget m .answer ≡ simulated.Spent budget
+  -- Whatever the budget, it is spent exactly if the scan is that has a round for every five commands after the first three.
+  pub matching : (o k : ℕ) (ws : List ℕ) (set x budget : ℕ) (m : List ℕ) → Read o k ws set → x < o + k → o + k ≤ length m
+      → (e .unit o k ws set (merged x) budget m .answer ≡ simulated.Spent budget) ↔ (e .scan o k ws set x ((budget - 3) / 5) m .answer ≡ scanned.Spent ((budget - 3) / 5))
