@@ -1,5 +1,5 @@
 #!/usr/bin/env python3
-"""Tests tools/netfile.py: net M's bytes in both forms, round trips, every refusal, and that a refusal writes nothing."""
+"""Tests tools/netfile.py: net M's bytes in both forms, round trips, names, pictures, every refusal, and that a refusal writes nothing."""
 
 import contextlib
 import importlib.util
@@ -7,6 +7,8 @@ import io
 import os
 import pathlib
 import random
+import re
+import shutil
 import struct
 import subprocess
 import sys
@@ -310,6 +312,18 @@ BAD_TEXTS = [
     (COUNTS + b"origins 0\n1024 is 2\n", 4, "tail 1024 is too large, the largest is 1023"),
     (COUNTS + b"origins 0\n" + b"0 is 2\n" * 8182, 8185, "more than 32768 bytes"),
     (COUNTS + b"ask 0 2\n" * 8182 + b"origins 0\n", 8185, "more than 32768 bytes"),
+    (COUNTS + b"name 5 last\nname 6 behind\n", 4, "node 6 is outside the net, which has 6 nodes"),
+    (COUNTS + b"name two average\n", 3, "node `two` is not a decimal number"),
+    (COUNTS + b"name 2 average\nname 2 mean\n", 4, "a second name for node 2"),
+    (COUNTS + b"name 2 average\nname 3 average\n", 4, "`average` is the name of node 2"),
+    (COUNTS + b"name 2 # average\n", 3, "ends after `2`"),
+    (b"objects 2\nname 0 trace\nkinds 4\n", 2, "before the first name there must be a line `kinds NUMBER`"),
+    (COUNTS + b"name 2 \xff\n", 3, "the name is not UTF-8"),
+    (COUNTS + b"name 2 a\x1bb\n", 3, "cannot be printed"),
+    (COUNTS + b"origin 4 shop\n", 3, "origin 4 is too large, the largest is 3"),
+    (COUNTS + b"origin 3\n", 3, "ends after `3`"),
+    (COUNTS + b"origin 1 shop\norigin 1 lab\n", 4, "a second name for origin 1"),
+    (COUNTS + b"origin 3 user\n", 3, "`user` is the name of origin 2"),
 ]
 
 # Parts of the messages that --unchecked does away with.
@@ -404,6 +418,247 @@ class Files(InFolder):
 def with_number(offset, number, file=M_FILE):
     """A file, M if none is given, with one number of the contents replaced."""
     return file[:offset] + number.to_bytes(4, "little") + file[offset + 4:]
+
+
+NAMED_M = M_TEXT.replace(b"0 is 2\n", b"""origin 1 the lab
+name 0 trace 0
+name 2 a truncated average
+name 3 unbiased
+name 5 a r\xc3\xb6unded average
+0 is 2
+""", 1)
+
+LISTED_M = """objects 2
+kinds 4
+origin 1 the lab
+name 0 trace 0
+name 2 a truncated average
+name 3 unbiased
+name 5 a röunded average
+0 is 2        # trace 0 is a truncated average
+1 is 5        # 1 is a röunded average
+2 is-not 3    # a truncated average is not unbiased
+4 is 3        # 4 is unbiased
+5 is 4        # a röunded average is 4
+ask 0 4       # is trace 0 4?
+ask 1 4       # is 1 4?
+ask 2 5       # is a truncated average a röunded average?
+ask 3 4       # is what is unbiased 4?
+ask 3 0       # is what is unbiased trace 0?
+"""
+
+PRINTED = b"""0 4 no 5
+  1  0 is 2      link 0
+  2  2 is-not 3  link 2 origin 2
+  3  0 is-not 3  3.4 from 1 2
+  4  4 is 3      link 3 origin 1
+  5  3 is 3      3.1
+  6  3 is-not 2  3.3 from 2
+ 10  2 is 3      link 12 origin 3
+1 4 yes 1
+2 5 both 5
+3 4 none 4
+3 0 refused 4
+file 9 3
+net 3 1 2
+0 4 4 0 3 7 6 0
+0 is 2
+"""
+
+TOLD = """no: trace 0 is not 4 (5 rounds)
+  1  trace 0 is a truncated average (link 0, factory)
+  2  a truncated average is not unbiased (link 2, user)
+  3  trace 0 is not unbiased (rule 3.4, from 1 and 2)
+  4  4 is unbiased (link 3, the lab)
+  5  what is unbiased is unbiased (rule 3.1)
+  6  what is unbiased is not a truncated average (rule 3.3, from 2)
+ 10  a truncated average is unbiased (link 12, origin 3)
+yes: 1 is 4 (1 round)
+both: a truncated average is a röunded average, and it is not (5 rounds)
+none: the net does not say whether what is unbiased is 4 (4 rounds)
+refused: 3 0 is no question of this net (number 4)
+file 9 3
+net 3 1 2
+0 4 4 0 3 7 6 0
+0 is 2
+"""
+
+
+class Naming(InFolder):
+    """Names of nodes and origins, and what is told with them."""
+
+    def test_names_go_into_no_file(self):
+        self.assertEqual(self.make(NAMED_M), (0, ""))
+        self.assertEqual(self.file.read_bytes(), M_FILE)
+
+    def test_list(self):
+        self.make(NAMED_M)
+        listed = run("list", "--names", self.text, self.file)
+        self.assertEqual((listed.returncode, listed.stdout.decode(), listed.stderr), (0, LISTED_M, b""))
+        self.assertEqual(self.make(listed.stdout), (0, ""))
+        self.assertEqual(self.file.read_bytes(), M_FILE)
+        self.assertEqual(run("list", "--names", self.text, self.file).stdout, listed.stdout)
+        self.assertEqual(run("list", self.file).stdout, M_TEXT)
+
+    def test_names_of_another_net(self):
+        self.make(NAMED_M)
+        self.file.write_bytes(file_of(2, 5, [], []))
+        message = "netfile.py: the names are for 2 objects and 4 kinds, and the net has 2 objects and 5 kinds\n"
+        for command in ("list", "draw"):
+            self.assertEqual(self.call(command, "--names", self.text, self.file), (1, message))
+        self.assertEqual(run("tell", "-").returncode, 1)
+
+    def test_tell(self):
+        self.text.write_bytes(NAMED_M)
+        told = run("tell", self.text, given=PRINTED)
+        self.assertEqual((told.returncode, told.stdout.decode(), told.stderr), (0, TOLD, b""))
+        self.assertEqual(run("tell", self.text).stdout, b"")
+
+    def test_links_of_the_nets_are_told(self):
+        for name in ("m", "m-user", "accessories"):
+            text = ROOT / "nets" / f"{name}.txt"
+            listed = run("list", "--names", text, text.with_suffix(".net")).stdout.decode()
+            told = {tuple(line.split()) for line in listed.splitlines()}
+            links = [line for line in text.read_text(encoding="utf-8").splitlines() if line[:1].isdigit()]
+            self.assertEqual(len(links), len(netfile.read_net(text.with_suffix(".net").read_bytes()).words))
+            for line in links:
+                self.assertIn(tuple(line.split()), told)
+
+    def test_answers_in_the_tables_of_m(self):
+        printed = run("tables", ROOT / "nets" / "m.txt").stdout.decode()
+        answers = [" ".join(found) for found in re.findall(r"^\| (\d+ \d+) \| [^|]* \| (\w+)", printed, re.M)]
+        asked = (ROOT / "crates" / "ask" / "stdout").read_text(encoding="utf-8").splitlines()
+        self.assertEqual(answers, [line.rsplit(" ", 1)[0] for line in asked])
+
+    def test_tables_of_the_page(self):
+        page = (ROOT / "nets" / "README.md").read_text(encoding="utf-8")
+        printed = {name: run("tables", ROOT / "nets" / f"{name}.txt").stdout.decode() for name in ("m", "m-user", "accessories")}
+        self.assertIn(printed["m"], page)
+        self.assertIn(printed["accessories"], page)
+        blocks = {block for text in printed.values() for block in text.rstrip("\n").split("\n\n")}
+        for block in page.split("\n\n"):
+            if block.startswith("|"):
+                self.assertIn(block, blocks)
+
+
+def supported(objects, nodes, links):
+    """The statements, tail, sign and head, in the smallest set that holds the links and is closed under rules (3.1) to (3.5)."""
+    kinds = range(objects, nodes)
+    found = set(links) | {(kind, 0, kind) for kind in kinds}
+    while True:
+        new = {(y, 1, x) for x, sign, y in found if sign and x in kinds}
+        for x, first, y in found:
+            new |= {(x, second, z) for tail, second, z in found if not first and tail == y}
+            new |= {(x, 1, z) for z, second, head in found if first and not second and head == y and x not in kinds and z in kinds}
+        if new <= found:
+            return found
+        found |= new
+
+
+class Search(unittest.TestCase):
+    """The search for reasons, held against the rules."""
+
+    def test_random_nets(self):
+        chance = random.Random(3)
+        for _ in range(150):
+            objects, kinds = chance.randrange(3), chance.randint(1, 5)
+            nodes, net = objects + kinds, netfile.Net()
+            net.counts = {"objects": objects, "kinds": kinds}
+            net.origins = chance.choice((None, 1, 3))
+            for _ in range(chance.randrange(9)):
+                word = chance.randrange(nodes) * 2048 + chance.randrange(objects, nodes) * 2 + chance.randrange(2)
+                net.words.append(word + (0 if net.origins is None else chance.randrange(2) * 2097152))
+            links = net.read_links()
+            statements = supported(objects, nodes, links.values())
+            for x in range(nodes):
+                for y in range(objects, nodes):
+                    for sign in (0, 1):
+                        way = netfile.reason(net, x, y, sign)
+                        self.assertEqual(way is not None, (x, sign, y) in statements)
+                        if way is not None:
+                            self.is_path(links, *way, x, y, sign)
+
+    def is_path(self, links, nodes, indices, x, y, sign):
+        """The nodes go from x to y over the links: with the arrows up to the one link "is not", against them behind it."""
+        self.assertEqual((nodes[0], nodes[-1], len(nodes)), (x, y, len(indices) + 1))
+        crossed = 0
+        for near, far, index in zip(nodes, nodes[1:], indices):
+            tail, link_sign, head = links[index]
+            ends = {(near, far), (far, near)} if link_sign else {(far, near)} if crossed else {(near, far)}
+            self.assertIn((tail, head), ends)
+            crossed += link_sign
+        self.assertEqual(crossed, sign)
+
+
+class Pictures(InFolder):
+    """The graph of a net."""
+
+    def draw(self, data, *options):
+        """The lines of the graph of a net file."""
+        drawn = run("draw", "-", *options, given=data)
+        self.assertEqual((drawn.returncode, drawn.stderr), (0, b""))
+        return [line.strip() for line in drawn.stdout.decode().splitlines()]
+
+    def test_delivered_picture(self):
+        drawn = run("draw", ROOT / "nets" / "m.net", "--names", ROOT / "nets" / "m.txt", "--about", 0, 4)
+        self.assertEqual(drawn.stdout, (ROOT / "docs" / "pictures" / "net-m-mean.dot").read_bytes())
+
+    def test_without_names_and_question(self):
+        lines = self.draw(M_FILE)
+        self.assertIn('n0 [label="0", style=filled, fillcolor="#fff6df", color="#c9a44a"];', lines)
+        self.assertIn('n2 [label="2"];', lines)
+        self.assertIn("n0 -> n2;", lines)
+        self.assertIn('n2 -> n3 [color="#c62828", style=dashed, arrowhead=tee];', lines)
+        self.assertFalse(any("penwidth" in line or line.startswith("label") for line in lines))
+
+    def test_reasons_are_marked(self):
+        cases = [((0, 4), [(0, 2), (2, 3), (4, 3)]), ((1, 4), [(1, 5), (5, 4)]), ((2, 5), [(2, 3), (4, 3), (5, 4)]), ((3, 4), []), ((4, 4), [])]
+        for about, links in cases:
+            marked = [line.split(" [")[0] for line in self.draw(M_FILE, "--about", *about) if "penwidth" in line]
+            self.assertEqual(marked, [f"n{tail} -> n{head}" for tail, head in links])
+        both = self.draw(file_of(1, 2, [2, 5, 2048 + 4], []), "--about", 0, 1)
+        self.assertIn('label="0 is 1\\n0 is not 1\\n"; labelloc=t; fontname="Helvetica,Arial,sans-serif";', both)
+
+    def test_links_that_are_not_read_are_pale(self):
+        lines = self.draw((ROOT / "nets" / "m-user.net").read_bytes(), "--about", 0, 4)
+        self.assertIn('n0 -> n4 [color="#cccccc"];', lines)
+        self.assertIn('label="0 is not 4\\n"; labelloc=t; fontname="Helvetica,Arial,sans-serif";', lines)
+
+    def test_a_large_net_is_drawn_about_a_question(self):
+        data = (ROOT / "nets" / "accessories.net").read_bytes()
+        first = self.draw(data)
+        self.assertEqual(first, self.draw(data, "--about", 0, 22))
+        nodes = {line.split(" ")[0] for line in first if " [label" in line}
+        self.assertTrue({"n0", "n13", "n21", "n22"} <= nodes)
+        self.assertNotIn("n63", nodes)
+        self.assertEqual(len([line for line in self.draw(data, "--whole") if " -> " in line]), 124)
+
+    def test_refusals(self):
+        self.file.write_bytes(M_FILE)
+        for x, y in ((6, 4), (0, 1), (0, 6), (-1, 4)):
+            self.assertEqual(self.call("draw", self.file, "--about", x, y), (1, f"netfile.py: {x} {y} is no question of this net\n"))
+        self.file.write_bytes(file_of(0, 41, [], []))
+        self.assertIn("--about X Y", self.call("draw", self.file)[1])
+        self.file.write_bytes(file_of(1, 1, [0], []))
+        self.assertEqual(self.call("draw", self.file), (1, "netfile.py: the net has an illegal link from 0 to 0\n"))
+        self.file.write_bytes(file_of(1, 1024, [], []))
+        self.assertIn("1025 nodes", self.call("draw", self.file, "--whole")[1])
+
+    def test_without_graphviz(self):
+        command = [sys.executable, str(TOOL), "draw", "-", "--svg"]
+        drawn = subprocess.run(command, input=M_FILE, capture_output=True, check=False, env={"PATH": str(self.folder)})
+        self.assertEqual((drawn.returncode, drawn.stdout), (1, b""))
+        self.assertEqual(drawn.stderr, b"netfile.py: --svg needs the program `dot` of Graphviz, which is not installed\n")
+
+    @unittest.skipUnless(shutil.which("dot"), "Graphviz is not installed")
+    def test_with_graphviz(self):
+        drawn = run("draw", "-", "--svg", given=M_FILE)
+        self.assertEqual((drawn.returncode, drawn.stderr), (0, b""))
+        self.assertIn(b"<svg", drawn.stdout)
+
+    def test_a_name_is_quoted(self):
+        self.text.write_bytes(COUNTS + b'name 2 the "so-called" \\N\n')
+        self.assertIn('n2 [label="2  the \\"so-called\\" \\\\N"];', self.draw(M_FILE, "--names", self.text))
 
 
 class Malformed(InFolder):
