@@ -1,7 +1,7 @@
 //! The plain engine: the timed operations of the request in ordinary Rust. Its algorithms are the proved engine's, so that
 //! the two can be timed against each other: a scan is the marker machine by a plan of `marks.rs`, a command and a level of
 //! distances are one pass over the words each, a link of an origin that is not chosen is left out where it is read, and nothing
-//! is allocated.
+//! is allocated. The search of a reason has a branch for each test of a move, where the proved one has a single comparison.
 
 use crate::engine::{Answer, Engine};
 use crate::marks::{Base, Best, Plan, F, T, U};
