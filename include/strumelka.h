@@ -380,7 +380,8 @@ struct strumelka_answer strumelka_proof_check(
  *   5            marks_len is below STRUMELKA_MARKS(o, k); marks unchanged
  *   16           a command is at fault: it is none of STRUMELKA_COMMAND_.., it clears no marker or more than eight, its marker
  *                is above 7 or its node is no node, or it begins a loop inside a loop, begins one that has no end after it or
- *                ends one where none is begun; first = the first such place in program; marks unchanged
+ *                ends one where none is begun; first = the first such place in program, or 4294967295 if it is larger;
+ *                marks unchanged
  *   6            the program needs more commands than budget; first = budget; marks after exactly that many commands */
 struct strumelka_answer strumelka_unit(
     uint32_t o, uint32_t k, const uint32_t *words, size_t words_len, uint32_t set,

@@ -16,6 +16,11 @@ impl Met {
             && self.second.map_or(true, |second| second == answer.second)
     }
 
+    /// How many values it names.
+    fn values(self) -> usize {
+        self.first.iter().count() + self.second.iter().count()
+    }
+
     /// As the table has it.
     fn text(self) -> String {
         match (self.first, self.second) {
@@ -35,16 +40,14 @@ impl<'a> Tally<'a> {
         }
     }
 
-    /// Counts an answer. One that the operation's line does not name is an error.
+    /// Counts an answer, at the outcome with most values where it meets several. One that the operation's line does not name is an error.
     pub fn add(&mut self, operation: &Operation, answer: Answer) -> Result<(), String> {
         let named = |line: &Operation| line.name == operation.name;
         let place = self.operations.iter().position(named);
         let counts = &mut self.counts[place.expect("the operation is in the table")];
-        match operation
-            .outcomes
-            .iter()
-            .position(|met| met.is_met_by(answer))
-        {
+        let met = |at: &usize| operation.outcomes[*at].is_met_by(answer);
+        let values = |at: &usize| operation.outcomes[*at].values();
+        match (0..counts.len()).filter(met).max_by_key(values) {
             Some(at) => counts[at] += 1,
             None => return Err(format!("{} cannot answer {:?}", operation.name, answer)),
         }

@@ -1,3 +1,4 @@
 pub mod Rows
 pub mod Outcomes
 pub mod Asked
+pub mod Right
