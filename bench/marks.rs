@@ -1,7 +1,7 @@
 //! The rounds of the marker machine by two plans: the best one that is known, written for speed, and the plan of the engine's first
 //! version, so that the gain is seen.
 
-use crate::nets::{head_of, is_chosen, origin_of, tail_of, NODE_LIMIT, ORIGINS};
+use crate::nets::{head_of, is_chosen, tail_of, NODE_LIMIT, ORIGINS};
 
 pub const T: u8 = 1;
 pub const F: u8 = 2;
@@ -70,8 +70,8 @@ fn run<const SIGN: u32, const UP: bool, const TEST: u8, const PUT: u8>(
     let mut blocks = words.chunks_exact(BLOCK);
     for block in &mut blocks {
         if has_sign::<SIGN>(block) {
-            for &word in block {
-                if follow::<UP, PUT>(&tests, word, marks) {
+            for word in block {
+                if follow::<UP, PUT>(&tests, read_again(word), marks) {
                     changed = true;
                 }
             }
@@ -97,12 +97,24 @@ fn has_sign<const SIGN: u32>(block: &[u32]) -> bool {
     }
 }
 
+/// A word, read from its place once more: so the compiler tests a block four words at a time, and not one by one those that it holds to follow them.
+#[inline(always)]
+fn read_again(word: &u32) -> u32 {
+    unsafe { std::ptr::read_volatile(word) }
+}
+
 /// The marker that a word is tested for, by its origin and sign: none where it has the other sign or is not chosen.
 fn tests_of(sign: u32, set: u32, marker: u8) -> [u8; 2 * ORIGINS] {
     std::array::from_fn(|class| {
-        let is_followed = class as u32 % 2 == sign && set >> (class / 2) & 1 != 0;
+        let is_followed = class as u32 / 4 == sign && set >> (class % 4) & 1 != 0;
         is_followed as u8 * marker
     })
+}
+
+/// The origin of a word, and 4 more where it says "is not": one multiplication puts both at the top of the word.
+#[inline(always)]
+fn class_of(word: u32) -> usize {
+    (word.wrapping_mul(0x8000_0100) >> 29) as usize
 }
 
 /// One word: a mark that is new waits at its far end. Whether there is one.
@@ -113,7 +125,7 @@ fn follow<const UP: bool, const PUT: u8>(
     marks: &mut Marks,
 ) -> bool {
     let (near, far) = ends::<UP>(word);
-    let class = (origin_of(word) % ORIGINS as u32 * 2 + word % 2) as usize;
+    let class = class_of(word);
     let byte = marks[far];
     let fires = marks[near] & tests[class];
     let had = byte & (PUT | WAITING);

@@ -1,12 +1,13 @@
--- Words of a block: how many say "is not", and that a block without a word of the command's sign does nothing.
-use Prim.Native.Nat.{ℕ, zero, suc, _+_, _≤_, _<_}
-use mathlib.Core.Path.{_≡_, refl, sym, ap, _∙_}
-use mathlib.Core.Bool.{Bool, true, false, cond, not}
+-- Words of a block: whether one has the sign, and that a block without a word of the command's sign does nothing.
+use Prim.Native.Nat.{ℕ, zero, suc, _+_, _%_, _≤_, _<_, max}
+use mathlib.Core.Path.{_≡_, refl, ap, _∙_}
+use mathlib.Core.Bool.{Bool, true, false, cond}
 use mathlib.Core.List.{List}
 use native.Mathlib.Omega.{arith}
 use native.Mathlib.Decide.{ℕ-discrete}
-use borrow.Author.Tests.{ne-eqb, eqb-true, not-false}
-use lib.Dec.{eqb}
+use native.Mathlib.Nat.{max-le, le-max-left, le-max-right}
+use borrow.Author.Tests.{ne-eqb}
+use lib.Bits.{bitOr, or-step}
 use lib.ListN.{length, getD, drop}
 use Rattle.theory.specs.Words.{parity}
 use Rattle.theory.specs.Marks.{link, links}
@@ -14,33 +15,21 @@ use Rattle.theory.specs.Origins.{plainOf, chooses, chosen, linkFrom}
 use Rattle.theory.specs.declared.Command.{Command}
 use Rattle.theory.proofs.origins.Folds.{chosen-links-go}
 
--- A loop has counted the odd words among k from place i on, and comes to the next.
-module _ (ws : List ℕ) (i k : ℕ) {count : ℕ} where
-  pub none-odd : (count ≡ 0 → (j : ℕ) → j < k → parity (getD ws (i + j) 0) ≡ 0)
-      → count + parity (getD ws (i + k) 0) ≡ 0 → (j : ℕ) → j < k + 1 → parity (getD ws (i + j) 0) ≡ 0
-  none-odd h e j l = at j l (ℕ-discrete j k)
-    where
-      at : (j : ℕ) → j < k + 1 → Dec (j ≡ k) → parity (getD ws (i + j) 0) ≡ 0
-      at j l (yes q) = rw q (omega (arith, e))
-      at j l (no q) = h (omega (arith, e)) j (omega arith)
+-- A disjunction is even only where both numbers are.
+or-even : (a b : ℕ) → parity (bitOr a b) ≡ 0 → (parity a ≡ 0) × (parity b ≡ 0)
+or-even a b e =
+    let l : max (a % 2) (b % 2) ≤ 1 = max-le (omega arith) (omega arith) in
+    let z : max (a % 2) (b % 2) ≡ 0 = omega (arith, or-step a b, l, e) in
+    (omega (arith, z, le-max-left (a % 2) (b % 2)), omega (arith, z, le-max-right (a % 2) (b % 2)))
 
-  pub all-odd : count ≤ k → (count ≡ k → (j : ℕ) → j < k → parity (getD ws (i + j) 0) ≡ 1)
-      → count + parity (getD ws (i + k) 0) ≡ k + 1 → (j : ℕ) → j < k + 1 → parity (getD ws (i + j) 0) ≡ 1
-  all-odd b h e j l = at j l (ℕ-discrete j k)
-    where
-      at : (j : ℕ) → j < k + 1 → Dec (j ≡ k) → parity (getD ws (i + j) 0) ≡ 1
-      at j l (yes q) = rw q (omega (arith, e, b))
-      at j l (no q) = h (omega (arith, e, b)) j (omega arith)
-
--- The test of a block by its count: no word has the sign.
-module _ (ws : List ℕ) (i : ℕ) {sign count : ℕ} where
-  pub no-is : sign ≡ 0 → (count ≡ 8 → (k : ℕ) → k < 8 → parity (getD ws (i + k) 0) ≡ 1) → not (eqb count 8) ≡ false
-      → (k : ℕ) → k < 8 → parity (getD ws (i + k) 0) ≡ sign → ⊥
-  no-is z h e k l q = let odd = h (eqb-true count 8 (not-false (eqb count 8) e)) k l in omega (arith, odd, q, z)
-
-  pub no-isnt : (sign ≡ 0 → ⊥) → (count ≡ 0 → (k : ℕ) → k < 8 → parity (getD ws (i + k) 0) ≡ 0) → not (eqb count 0) ≡ false
-      → (k : ℕ) → k < 8 → parity (getD ws (i + k) 0) ≡ sign → ⊥
-  no-isnt z h e k l q = z (sym q ∙ h (eqb-true count 0 (not-false (eqb count 0) e)) k l)
+-- Where a loop's number is even, none of the k words from place i on has the sign. It comes to the next word.
+pub none-more : (ws : List ℕ) (sign i k found : ℕ) → (parity found ≡ 0 → (j : ℕ) → j < k → parity (getD ws (i + j) 0) ≡ sign → ⊥)
+    → parity (bitOr found (parity (getD ws (i + k) 0) + sign % 2 + 1)) ≡ 0 → (j : ℕ) → j < k + 1 → parity (getD ws (i + j) 0) ≡ sign → ⊥
+none-more ws sign i k found h e j l q = at (or-even found (parity (getD ws (i + k) 0) + sign % 2 + 1) e) (ℕ-discrete j k)
+  where
+    at : (parity found ≡ 0) × (parity (parity (getD ws (i + k) 0) + sign % 2 + 1) ≡ 0) → Dec (j ≡ k) → ⊥
+    at even (yes d) = let s : parity (getD ws (i + k) 0) ≡ sign = rw d at q in omega (arith, s, even .1)
+    at even (no d) = h (even .0) j (omega arith) q
 
 module _ (set : ℕ) (c : Command) (old : List ℕ) where
   -- A word of the other sign does nothing.

@@ -19,34 +19,21 @@ use theory::Command;
 // How many words are looked at together.
 const BLOCK: usize = 8;
 
-// How many of the words of a block say "is not".
-fn count_isnt(words: &[u32], from: usize) -> u32
-    requires { ⌜ from + 8 ≤ length (now words) ⌝ }
-    ensures { λ r. ⌜ (r ≡ 0 → (k : ℕ) → k < 8 → parity (getD (now (words .entry)) (from + k) 0) ≡ 0) ⌝ }
-    ensures { λ r. ⌜ (r ≡ 8 → (k : ℕ) → k < 8 → parity (getD (now (words .entry)) (from + k) 0) ≡ 1) ⌝ }
-{
-    let mut count = 0;
-    let mut k = 0;
-    while k < BLOCK {
-        count += words[from + k] % 2;
-        k += 1;
-    }
-    count
-}
-
-// Whether one of the words of a block has the sign: where none has, all of them are passed over.
+// Whether one of the words of a block has the sign: where none has, all of them are passed over. A word that has it makes `found` odd.
 fn has_sign(sign: u32, words: &[u32], from: usize) -> bool
     requires { ⌜ from + 8 ≤ length (now words) ⌝ }
     ensures { λ r. ⌜ (r ≡ false → (k : ℕ) → k < 8 → parity (getD (now (words .entry)) (from + k) 0) ≡ sign → ⊥) ⌝ }
 {
-    let count = count_isnt(words, from);
-    if sign == 0 {
-        return count != 8;
+    let mut found = 0;
+    let mut k = 0;
+    while k < BLOCK {
+        found = found | (words[from + k] % 2 + sign % 2 + 1);
+        k += 1;
     }
-    count != 0
+    found % 2 == 1
 }
 
-// The chosen links of a block in turn, their new marks pending; whether one of them set a mark.
+// The chosen links of a block in turn, their new marks pending; whether one of them set a mark, or one before them did, as `changed` tells.
 fn follow_block(
     set: u32,
     c: Command,
@@ -54,6 +41,7 @@ fn follow_block(
     n: usize,
     words: &[u32],
     from: usize,
+    changed: bool,
     marks: &mut [u8],
 ) -> bool
     requires small { ⌜ Small c ⌝ }
@@ -62,9 +50,9 @@ fn follow_block(
     requires block { ⌜ from + 8 ≤ length (now words) ⌝ }
     requires room { ⌜ n ≤ length (now marks) ⌝ }
     requires free { ⌜ Free n (now marks) ⌝ }
-    ensures { λ r. ⌜ Followed set c n (now (words .entry)) from (from + 8) r (now (marks .entry)) (now (marks .exit)) ⌝ }
+    ensures { λ r. ⌜ Followed set c n (now (words .entry)) from (from + 8) changed r (now (marks .entry)) (now (marks .exit)) ⌝ }
 {
-    let mut marked = false;
+    let mut marked = changed;
     let mut k = 0;
     while k < BLOCK {
         if follow(set, c, tests, n, words[from + k], marks) {
@@ -83,6 +71,7 @@ fn follow_rest(
     n: usize,
     words: &[u32],
     from: usize,
+    changed: bool,
     marks: &mut [u8],
 ) -> bool
     requires small { ⌜ Small c ⌝ }
@@ -91,9 +80,9 @@ fn follow_rest(
     requires rest { ⌜ from ≤ length (now words) ⌝ }
     requires room { ⌜ n ≤ length (now marks) ⌝ }
     requires free { ⌜ Free n (now marks) ⌝ }
-    ensures { λ r. ⌜ Followed set c n (now (words .entry)) from (length (now (words .entry))) r (now (marks .entry)) (now (marks .exit)) ⌝ }
+    ensures { λ r. ⌜ Followed set c n (now (words .entry)) from (length (now (words .entry))) changed r (now (marks .entry)) (now (marks .exit)) ⌝ }
 {
-    let mut marked = false;
+    let mut marked = changed;
     let mut i = from;
     while i < words.len() {
         if follow(set, c, tests, n, words[i], marks) {
@@ -104,7 +93,8 @@ fn follow_rest(
     marked
 }
 
-// The chosen links in turn, their new marks pending; whether one of them set a mark. Blocks in which no word has the command's sign are passed over.
+// The chosen links in turn, their new marks pending; whether one of them set a mark. Blocks in which no word has the command's sign are passed over, and
+// the words after the last whole block are followed one by one.
 fn follow_all(
     set: u32,
     c: Command,
@@ -124,18 +114,17 @@ fn follow_all(
     ensures { λ r. ⌜ Free n (now (marks .exit)) ⌝ }
 {
     let sign = c.sign;
+    let whole = words.len() / BLOCK * BLOCK;
     let mut changed = false;
     let mut i = 0;
-    while BLOCK <= words.len() - i {
+    while i < whole {
         let from = i;
         i += BLOCK;
         if has_sign(sign, words, from) {
-            let more = follow_block(set, c, tests, n, words, from, marks);
-            changed = changed | more;
+            changed = follow_block(set, c, tests, n, words, from, changed, marks);
         }
     }
-    let more = follow_rest(set, c, tests, n, words, i, marks);
-    changed | more
+    follow_rest(set, c, tests, n, words, i, changed, marks)
 }
 
 // The pending marks of `n` nodes folded into marker `put`.

@@ -1,29 +1,49 @@
 -- The list of what each class of words is tested for.
-use Prim.Native.Nat.{ℕ, _+_, _^_, _<_}
+use Prim.Native.Nat.{ℕ, _+_, _*_, _/_, _%_, _^_, _<_, _≤_}
 use mathlib.Core.Path.{_≡_, sym, ap, _∙_}
 use mathlib.Core.Bool.{Bool, true, false}
 use mathlib.Core.List.{List}
 use native.Mathlib.Omega.{arith}
+use native.Mathlib.Nat.{add-mul-div-right, mul-add-mod-self-right, mod-eq-of-lt, div-eq-of-lt}
 use borrow.Author.Count.{below-more}
 use borrow.Author.Tests.{eq-eqb, ne-eqb}
 use lib.ListN.{length, getD, set}
 use lib.Seq.{getD-set-same, getD-set-other}
 use Rattle.theory.specs.Words.{parity}
-use Rattle.theory.specs.Origins.{originOf, chooses}
+use Rattle.theory.specs.Origins.{originUnit, originOf, originLimit, chooses}
 use Rattle.theory.specs.declared.Command.{Command}
+use Rattle.theory.proofs.origins.Choosing.{origin-from}
 use Rattle.scan_link.specs.Classes.{classOf, wordIn, testFor, Tests}
 use Rattle.scan_link.proofs.Pending.{and-none}
 
+-- A number in two parts, the lower one below b.
+module _ (a b : ℕ) {x : ℕ} (l : x < b) where
+  upper-part : (x + a * b) / b ≡ a
+  upper-part = omega (arith, add-mul-div-right x a {z = b} (omega (arith, l)), div-eq-of-lt l)
+
+  lower-part : (a * b + x) % b ≡ x
+  lower-part = mul-add-mod-self-right a b x ∙ mod-eq-of-lt l
+
+-- The multiplication puts the sign above the origin, and both at the top of 32 bits.
+pub class-number : (w : ℕ) → originOf w ≤ originLimit → w * 2147483904 % 4294967296 / 536870912 ≡ classOf w
+class-number w l =
+    let e : w * 2147483904 ≡ w / 2 * 4294967296 + (w % 2 * 2147483648 + w * 256) = omega arith in
+    let m : w * 2147483904 % 4294967296 ≡ w % 2 * 2147483648 + w * 256 =
+    ap (λ (q : ℕ). q % 4294967296) e ∙ lower-part (w / 2) 4294967296 (omega (arith, l)) in
+    let q : w % 2 * 2147483648 + w * 256 ≡ w % 2097152 * 256 + classOf w * 536870912 = omega arith in
+    ap (λ (q : ℕ). q / 536870912) (m ∙ q) ∙ upper-part (classOf w) 536870912 (omega arith)
+
 -- A word and the word of its class are tested for the same.
-class-test : (os : ℕ) (c : Command) (w : ℕ) → testFor os c (wordIn (classOf w)) ≡ testFor os c w
-class-test os c w =
-    let o : originOf (wordIn (classOf w)) ≡ originOf w = omega arith in
-    let p : parity (wordIn (classOf w)) ≡ parity w = omega arith in
-    rw (o, p)
+class-test : (os : ℕ) (c : Command) (w : ℕ) → originOf w ≤ originLimit → testFor os c (wordIn (classOf w)) ≡ testFor os c w
+class-test os c w l =
+    let o : classOf w % 4 ≡ originOf w = lower-part (parity w) 4 (omega (arith, l)) in
+    let s : classOf w / 4 ≡ parity w = omega (arith, o) in
+    let p : parity (originOf w * originUnit + parity w) ≡ parity w = omega arith in
+    rw (o, s, origin-from (originOf w) (parity w) (omega arith), p)
 
 -- So a list that is right at the word of each class is right at every word.
 pub tests-all : (os : ℕ) (c : Command) (t : List ℕ) → ((i : ℕ) → i < 8 → getD t i 0 ≡ testFor os c (wordIn i)) → Tests os c t
-tests-all os c t h w l = h (classOf w) (omega arith) ∙ class-test os c w
+tests-all os c t h w l = h (classOf w) (omega arith) ∙ class-test os c w l
 
 -- A list that is right at the classes below i, with one byte more.
 pub tests-more : (os : ℕ) (c : Command) (t : List ℕ) (i : ℕ) {w x : ℕ} → i < length t → w ≡ wordIn i → x ≡ testFor os c w

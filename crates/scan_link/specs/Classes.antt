@@ -11,10 +11,10 @@ use Rattle.theory.specs.declared.Command.{Command}
 
 -- The class of a word, 0 to 7, and a word of a class.
 abbrev pub classOf : ℕ → ℕ
-classOf w = originOf w * 2 + parity w
+classOf w = parity w * 4 + originOf w
 
 abbrev pub wordIn : ℕ → ℕ
-wordIn i = from (i / 2) (i % 2)
+wordIn i = from (i % 4) (i / 4)
 
 -- The byte of the marker that a word is tested for: the command's, where the set chooses the word and the sign is the command's; else none.
 abbrev pub testFor : ℕ → Command → ℕ → ℕ

@@ -10,7 +10,6 @@ ghost use Rattle.scan_link.specs.Classes.{classOf, wordIn, testFor, Test
 ghost use Rattle.scan_link.specs.Pending.{settle, Free, Held};
 use net_word::head_of;
 use net_word::is_chosen;
-use net_word::origin_of;
 use net_word::plain_of;
 use net_word::tail_of;
 use theory::Command;
@@ -26,12 +25,12 @@ pub fn bit_of(j: u8) -> u8
     1 << j
 }
 
-// The class of a word: its origin and its sign.
+// The class of a word: its origin, and 4 more where it says "is not". One multiplication, by 2^31 + 2^8, puts the two side by side at the top of 32 bits.
 fn class_of(word: u32) -> usize
     requires { ⌜ originOf word ≤ originLimit ⌝ }
     ensures { λ r. ⌜ r ≡ classOf word ⌝ }
 {
-    (origin_of(word) * 2 + word % 2) as usize
+    (word as u64 * 2147483904 % 4294967296 / 536870912) as usize
 }
 
 // A word of a class.
@@ -39,7 +38,7 @@ fn word_in(class: usize) -> u32
     requires { ⌜ class < 8 ⌝ }
     ensures { λ r. ⌜ r ≡ wordIn class ⌝ }
 {
-    (class / 2 * 2097152 + class % 2) as u32
+    (class % 4 * 2097152 + class / 4) as u32
 }
 
 // The byte of the marker that a command tests for at a word's end; 0 where it does not follow the word.

@@ -12,11 +12,11 @@ use Rattle.scan_command.proofs.follow_block.Statement.{statement}
 use Rattle.scan_command.proofs.follow_block.Tie as tie
 
 abbrev Inv-loop : tie.InvT-loop
-Inv-loop set c tests n words from marks₀ marked₀ k₀ marks marked k =
-    (k ≤ 8) × (length marks ≡ length marks₀) × Followed set c n words from (from + k) marked marks₀ marks
+Inv-loop set c tests n words from changed marks₀ marked₀ k₀ marks marked k =
+    (k ≤ 8) × (length marks ≡ length marks₀) × Followed set c n words from (from + k) changed marked marks₀ marks
 
 abbrev μ-loop : tie.MeasureT-loop
-μ-loop set c tests n words from marks₀ marked₀ k₀ marks marked k = 8 - k
+μ-loop set c tests n words from changed marks₀ marked₀ k₀ marks marked k = 8 - k
 
 loop-holds : tie.Need-loop-holds Inv-loop μ-loop
 loop-holds c =

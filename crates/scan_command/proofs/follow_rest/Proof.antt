@@ -12,11 +12,11 @@ use Rattle.scan_command.proofs.follow_rest.Statement.{statement}
 use Rattle.scan_command.proofs.follow_rest.Tie as tie
 
 abbrev Inv-loop : tie.InvT-loop
-Inv-loop set c tests n words from marks₀ marked₀ i₀ marks marked i =
-    (i ≤ length words) × (length marks ≡ length marks₀) × Followed set c n words from i marked marks₀ marks
+Inv-loop set c tests n words from changed marks₀ marked₀ i₀ marks marked i =
+    (i ≤ length words) × (length marks ≡ length marks₀) × Followed set c n words from i changed marked marks₀ marks
 
 abbrev μ-loop : tie.MeasureT-loop
-μ-loop set c tests n words from marks₀ marked₀ i₀ marks marked i = length words - i
+μ-loop set c tests n words from changed marks₀ marked₀ i₀ marks marked i = length words - i
 
 loop-holds : tie.Need-loop-holds Inv-loop μ-loop
 loop-holds c =
