@@ -62,12 +62,16 @@ extern "C" {
 #define STRUMELKA_ALL_ORIGINS 15u
 
 /* Buffer sizes for a net of o objects and k kinds, and of so many words, in elements; constant where these are.
- * MARKS, SCRATCH, ROWS, DROPPED_LIST and TABLE are what a call needs, and less is refused. REASON_LIST, COMPLETION_LIST and
- * PROOF_LIST are the most that any net of that size can need: a shorter list is fine where the result fits it. */
+ * MARKS, SCRATCH, ROWS, DROPPED_LIST and TABLE are what a call needs, and less is refused. REASON_LIST, LINES_LIST,
+ * COMPLETION_LIST and PROOF_LIST are the most that any net of that size can need: a shorter list is fine where the result
+ * fits it. The most lines are those of a path up all kinds to one that is not itself and down again, from an object if there
+ * is one: 4 * k - 1 of an object, 4 * k - 2 of a kind, 1 where a single kind is all there is. */
 #define STRUMELKA_MARKS(o, k) ((size_t)(o) + (size_t)(k))
 #define STRUMELKA_SCRATCH(o, k) (2u * STRUMELKA_MARKS(o, k))
 #define STRUMELKA_ROWS(o, k) (STRUMELKA_MARKS(o, k) * ((STRUMELKA_MARKS(o, k) + 63u) / 64u))
 #define STRUMELKA_REASON_LIST(o, k) ((size_t)2 + 2u * (size_t)(k) + ((o) > 0 ? 1u : 0u))
+#define STRUMELKA_LINES_LIST(o, k) \
+    ((size_t)(k) < 2u ? ((o) > 0 ? 12u : 4u) * (size_t)(k) : 16u * (size_t)(k) - ((o) > 0 ? 4u : 8u))
 #define STRUMELKA_COMPLETION_LIST(o, k) (2u * STRUMELKA_MARKS(o, k) * (size_t)(k))
 #define STRUMELKA_DROPPED_LIST(words) ((size_t)3 * (size_t)(words))
 #define STRUMELKA_TABLE(o, k) (STRUMELKA_MARKS(o, k) * (size_t)(k))
@@ -91,6 +95,28 @@ extern "C" {
 
 /* The most pairs of a screenful. */
 #define STRUMELKA_PAIR_LIMIT 64u
+
+/* Which list is too short for an explanation. */
+#define STRUMELKA_SHORT_REASON 0u
+#define STRUMELKA_SHORT_LINES 1u
+
+/* A line of a derivation has four places, and lines are numbered from 0. At these places of the list line i has its
+ * statement as a plain word, its ground, and up to two numbers, 0 where the ground uses none. */
+#define STRUMELKA_LINE_PLACES 4u
+#define STRUMELKA_LINE_STATEMENT(i) ((size_t)4 * (size_t)(i))
+#define STRUMELKA_LINE_GROUND(i) ((size_t)4 * (size_t)(i) + 1u)
+#define STRUMELKA_LINE_FIRST(i) ((size_t)4 * (size_t)(i) + 2u)
+#define STRUMELKA_LINE_SECOND(i) ((size_t)4 * (size_t)(i) + 3u)
+
+/* The ground of a line: a link, and its first number is the index of that word among all words; or a rule, and its numbers
+ * are the lines above it that say what the rule needs, in the order given here. p, q and r are kinds, a is an object, x is
+ * either. */
+#define STRUMELKA_GROUND_LINK 0u
+#define STRUMELKA_GROUND_RULE_1 1u /* (3.1): p is p */
+#define STRUMELKA_GROUND_RULE_2 2u /* (3.2): x is q, and q is r; so x is r */
+#define STRUMELKA_GROUND_RULE_3 3u /* (3.3): p is not q; so q is not p */
+#define STRUMELKA_GROUND_RULE_4 4u /* (3.4): x is q, and q is not r; so x is not r */
+#define STRUMELKA_GROUND_RULE_5 5u /* (3.5): p is q, and a is not q; so a is not p */
 
 /* The most sequents one above another in a proof, and what the check of a proof gives where no one step is at fault. */
 #define STRUMELKA_SEQUENT_LIMIT 255u
@@ -334,6 +360,37 @@ struct strumelka_answer strumelka_reason_check(
     uint32_t o, uint32_t k, const uint32_t *words, size_t words_len, uint32_t set,
     uint32_t x, uint32_t y, uint32_t sign,
     const uint16_t *list, size_t list_len);
+
+/* The shortest reason for a statement, and its derivation, which a person can check line by line: each line is a link of
+ * the net or follows from lines above it by a rule, and the last one says the statement. A reason of n links has at most
+ * 2 * n + 1 lines.
+ *   0            first = the places written to the front of lines, STRUMELKA_LINE_PLACES for each; second = the places
+ *                written to the front of reason, as strumelka_reason writes them; places after both unchanged
+ *   1, 2, 15, 3  as in strumelka_check_net
+ *   4            x is no node, y is no kind, or sign is neither of the two; scratch, reason and lines unchanged
+ *   5            scratch_len is below STRUMELKA_SCRATCH(o, k); scratch, reason and lines unchanged
+ *   7            the net does not support the statement; reason and lines unchanged
+ *   8            a list is too small; first = the places that it needs; second = which one it is:
+ *                STRUMELKA_SHORT_REASON  reason_len is too small, whatever lines_len is; reason and lines unchanged
+ *                STRUMELKA_SHORT_LINES   lines_len is too small; the reason is written as with 0; lines unchanged
+ * With 0, 7 and 8 the scratch is as strumelka_reason leaves it. */
+struct strumelka_answer strumelka_explain(
+    uint32_t o, uint32_t k, const uint32_t *words, size_t words_len, uint32_t set,
+    uint32_t x, uint32_t y, uint32_t sign,
+    uint16_t *scratch, size_t scratch_len, uint16_t *reason, size_t reason_len,
+    uint32_t *lines, size_t lines_len);
+
+/* The check of a derivation from anybody: is list made of whole lines, each of which is a chosen link or follows by its rule
+ * from lines above it, and does the last one say the statement? Lines may repeat and go unused. Nothing is written.
+ *   0            first = 1 if so, and then the net supports the statement; 0 if not, as for a list that is empty or ends
+ *                within a line, and for a line that names itself, one below it or a word that is not chosen, or that has a
+ *                number where its ground uses none
+ *   1, 2, 15, 3  as in strumelka_check_net
+ *   4            x is no node, y is no kind, or sign is neither of the two */
+struct strumelka_answer strumelka_derivation_check(
+    uint32_t o, uint32_t k, const uint32_t *words, size_t words_len, uint32_t set,
+    uint32_t x, uint32_t y, uint32_t sign,
+    const uint32_t *list, size_t list_len);
 
 /* The proof of a statement, node x is of kind y (sign STRUMELKA_IS) or is not (STRUMELKA_IS_NOT), by the rules of a sequent
  * calculus, built from the shortest reason. The list begins with the number of branches and, for each of them, the place of

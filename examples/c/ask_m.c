@@ -1,5 +1,6 @@
 /* Asks a screenful about net M, to which a user has added a link, without the user's links: prints a line for each pair, and then
- * the reason why 0 is not 5. The last lines are what the user's link makes of the net, its question printed as `ask` does. */
+ * the reason why 0 is not 5 and its derivation, line by line. The last lines are what the user's link makes of the net, its
+ * question printed as `ask` does. */
 #include <stdio.h>
 
 #include "strumelka.h"
@@ -56,23 +57,44 @@ static void ask(uint32_t set, uint32_t x, uint32_t y)
         printf("%u %u refused %u\n", (unsigned)x, (unsigned)y, (unsigned)answer.number);
 }
 
-/* Prints the reason for "x is not y"; 0 if there is one. */
-static int reason_against(uint32_t set, uint32_t x, uint32_t y)
+/* Prints line i of a derivation, its number and those that it names counted from 1. */
+static void print_line(const uint32_t *lines, uint32_t i)
+{
+    uint32_t said = lines[STRUMELKA_LINE_STATEMENT(i)], ground = lines[STRUMELKA_LINE_GROUND(i)];
+    unsigned first = (unsigned)lines[STRUMELKA_LINE_FIRST(i)], second = (unsigned)lines[STRUMELKA_LINE_SECOND(i)];
+    printf("  %u  %u %s %u  ", (unsigned)i + 1, (unsigned)STRUMELKA_TAIL(said),
+           STRUMELKA_SIGN(said) == STRUMELKA_IS ? "is" : "is-not", (unsigned)STRUMELKA_HEAD(said));
+    if (ground == STRUMELKA_GROUND_LINK)
+        printf("link %u\n", first);
+    else if (ground == STRUMELKA_GROUND_RULE_1)
+        printf("3.1\n");
+    else if (ground == STRUMELKA_GROUND_RULE_3)
+        printf("3.3 from %u\n", first + 1);
+    else
+        printf("3.%u from %u %u\n", (unsigned)ground, first + 1, second + 1);
+}
+
+/* Prints the reason for "x is not y" and its derivation; 0 if there is one and the check takes it. */
+static int explain_against(uint32_t set, uint32_t x, uint32_t y)
 {
     uint16_t scratch[STRUMELKA_SCRATCH(OBJECTS, KINDS)];
-    uint16_t list[STRUMELKA_REASON_LIST(OBJECTS, KINDS)];
+    uint16_t reason[STRUMELKA_REASON_LIST(OBJECTS, KINDS)];
+    uint32_t lines[STRUMELKA_LINES_LIST(OBJECTS, KINDS)];
     struct strumelka_answer answer =
-        strumelka_reason(OBJECTS, KINDS, net, net_len, set, x, y, STRUMELKA_IS_NOT,
-                         scratch, sizeof scratch / sizeof scratch[0], list, sizeof list / sizeof list[0]);
+        strumelka_explain(OBJECTS, KINDS, net, net_len, set, x, y, STRUMELKA_IS_NOT,
+                          scratch, sizeof scratch / sizeof scratch[0], reason, sizeof reason / sizeof reason[0],
+                          lines, sizeof lines / sizeof lines[0]);
     if (answer.number != STRUMELKA_NUMBER_DONE) {
         printf("reason %u -/> %u refused %u\n", (unsigned)x, (unsigned)y, (unsigned)answer.number);
         return 1;
     }
     printf("reason %u -/> %u:", (unsigned)x, (unsigned)y);
-    for (uint32_t i = 0; i < answer.first; i++)
-        printf(" %u", (unsigned)list[i]);
+    for (uint32_t i = 0; i < answer.second; i++)
+        printf(" %u", (unsigned)reason[i]);
     printf("\n");
-    return 0;
+    for (uint32_t i = 0; i < answer.first / STRUMELKA_LINE_PLACES; i++)
+        print_line(lines, i);
+    return strumelka_derivation_check(OBJECTS, KINDS, net, net_len, set, x, y, STRUMELKA_IS_NOT, lines, answer.first).first != 1;
 }
 
 /* Prints where the net clashes, or that it does not. */
@@ -107,7 +129,7 @@ int main(void)
         return 1;
     if (ask_screenful(without_user) != 0)
         return 1;
-    if (reason_against(without_user, 0, 5) != 0)
+    if (explain_against(without_user, 0, 5) != 0)
         return 1;
     test_for_clash(without_user);
     ask(STRUMELKA_ALL_ORIGINS, 0, 4);

@@ -3,6 +3,7 @@
 
 use crate::call::{run, Outcome};
 use crate::case::{widened, Case};
+use crate::derivations::draw_derivation;
 use crate::fields::Field;
 use crate::nets::{draw_illegal, draw_origin, plain, word, Net, ALL_ORIGINS};
 use crate::operations::Operation;
@@ -23,6 +24,9 @@ pub fn draw_case<'a>(
     let mut case = Case { operation, values };
     if operation.fields.contains(&Field::Path) {
         draw_path(random, net, operations, &mut case);
+    }
+    if operation.fields.contains(&Field::Derivation) {
+        draw_derivation(random, net, operations, &mut case);
     }
     if operation.fields.contains(&Field::Proof) {
         draw_proof(random, net, operations, &mut case);
@@ -94,8 +98,8 @@ fn draw_field(random: &mut Random, net: &Net, field: Field) -> Vec<u64> {
             let values = (0..size).map(|_| random.below(4) as u64).collect();
             spoilt(random, values)
         }
-        Field::Answers | Field::List | Field::Reason | Field::Path | Field::Proof => Vec::new(),
-        Field::Program => Vec::new(),
+        Field::Answers | Field::List | Field::Reason | Field::Lines => Vec::new(),
+        Field::Path | Field::Derivation | Field::Proof | Field::Program => Vec::new(),
         Field::Commands => vec![0],
         Field::File => draw_file(random, net),
         Field::Byte => vec![random.below(256) as u64],
@@ -152,20 +156,27 @@ fn fit_to_pairs(random: &mut Random, case: &mut Case) {
     case.set(Field::Answers, garbage(random, Field::Answers, size));
 }
 
-/// Budget and lists around what the call answers with an endless budget and an empty list.
+/// Budget and lists around what the call answers with an endless budget and empty lists. Where it writes two lists, the first has room when it is asked
+/// what the second needs.
 fn fit_to_result(random: &mut Random, net: &Net, case: &mut Case) {
-    let fitted = [Field::Budget, Field::List, Field::Reason];
-    if !case.operation.fields.iter().any(|it| fitted.contains(it)) {
-        return;
+    let mut sizes = Vec::new();
+    for field in [Field::Budget, Field::List, Field::Reason, Field::Lines] {
+        if !case.operation.fields.contains(&field) {
+            continue;
+        }
+        let outcome = run(case, 0).expect("the archive keeps to its memory");
+        let answer = outcome.answer;
+        if field == Field::Budget {
+            let budget = draw_budget(random, answer.first, net.nodes() as u32);
+            case.set(field, widened(&[budget]));
+        } else {
+            let needed = if answer.number == 8 { answer.first } else { 4 } as usize;
+            case.set(field, vec![0; needed]);
+            sizes.push((field, needed));
+        }
     }
-    let answer = run(case, 0)
-        .expect("the archive keeps to its memory")
-        .answer;
-    let budget = draw_budget(random, answer.first, net.nodes() as u32);
-    let needed = if answer.number == 8 { answer.first } else { 4 };
-    case.set(Field::Budget, widened(&[budget]));
-    for field in [Field::List, Field::Reason] {
-        let size = draw_size(random, needed as usize);
+    for (field, needed) in sizes {
+        let size = draw_size(random, needed);
         case.set(field, garbage(random, field, size));
     }
 }

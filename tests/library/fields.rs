@@ -28,6 +28,8 @@ pub enum Field {
     Scratch,
     Reason,
     Path,
+    Lines,
+    Derivation,
     Proof,
     Program,
     Commands,
@@ -61,7 +63,7 @@ const fn shape(name: &'static str, field: Field, width: usize, most: usize, lent
     }
 }
 
-static SHAPES: [Shape; 31] = [
+static SHAPES: [Shape; 33] = [
     number("o", Field::Objects),
     number("k", Field::Kinds),
     shape("words", Field::Words, 4, 16_384, false),
@@ -88,6 +90,8 @@ static SHAPES: [Shape; 31] = [
     shape("scratch", Field::Scratch, 2, 4_096, true),
     shape("reason", Field::Reason, 2, 4_096, true),
     shape("path", Field::Path, 2, 4_096, false),
+    shape("lines", Field::Lines, 4, 16_384, true),
+    shape("derivation", Field::Derivation, 4, 16_384, false),
     shape("proof", Field::Proof, 4, 16_384, false),
     shape("program", Field::Program, 4, 16_384, false),
     number("commands", Field::Commands),

@@ -1,11 +1,12 @@
 //! Calls with more words than a case can have: the largest list that is allowed, and one word more. And the largest table of a valuation,
-//! the largest rows, the deepest proofs, and scans of large nets by the marker unit.
+//! the largest rows, the longest derivations, the deepest proofs, and scans of large nets by the marker unit.
 
 use crate::answer::Answer;
 use crate::call::{run, Outcome};
 use crate::case::{widened, Case};
 use crate::draw::draw_case;
 use crate::fields::Field;
+use crate::lines::Line;
 use crate::nets::{
     chain_net, draw_origin, plain, random_net, row_size, word, Net, ALL_ORIGINS, NODE_LIMIT,
     WORD_LIMIT,
@@ -65,13 +66,13 @@ pub fn calls_at_limit(
             _ => efforts.contains(&it.effort),
         };
         for operation in on_nets(operations).filter(quick) {
-            let mut case = draw_case(&mut random, &many, operations, operation);
+            let mut case = draw_case(&mut random, &few, operations, operation);
             case.set(Field::Set, vec![random.below(16) as u64]);
-            case.set(Field::Links, without_origins(&many.words));
-            let whole = case.clone();
-            case.set(Field::Words, widened(&few.words));
             case.set(Field::Links, without_origins(&few.words));
             let mut expected = run(&case, 0)?;
+            let mut whole = case;
+            whole.set(Field::Words, widened(&many.words));
+            whole.set(Field::Links, without_origins(&many.words));
             if operation.fields.contains(&Field::Links) {
                 match expected.answer.number {
                     0 => expected.lists[0].resize(many.words.len(), 0),
@@ -84,6 +85,7 @@ pub fn calls_at_limit(
     mend_clashing(operations, tally)?;
     fill_largest_table(operations, tally)?;
     complete_longest_chain(operations, tally)?;
+    explain_longest(operations, tally)?;
     prove_deepest(operations, tally)?;
     scan_by_program(&mut random, operations, tally)
 }
@@ -252,6 +254,110 @@ fn complete_longest_chain(operations: &[Operation], tally: &mut Tally) -> Result
         hold(&case, &Outcome::unchanged(&case, answer), tally)?;
     }
     Ok(())
+}
+
+/// A chain of as many nodes as are allowed, of kinds alone or from an object, whose last kind is not itself: that its first node is not its first kind takes
+/// the longest path that there is, up the whole chain and down again, and the longest derivation. Lists with a place to spare, and with one too few; then
+/// what the check says to the lines, whole, without the last one and with the link at the end under another index.
+fn explain_longest(operations: &[Operation], tally: &mut Tally) -> Result<(), String> {
+    const LAST: usize = NODE_LIMIT - 1;
+    const NO_WAY: u64 = 65_535;
+    let mut words: Vec<u32> = (0..LAST).map(|v| word(v, v + 1, 0)).collect();
+    words.push(word(LAST, LAST, 1));
+    for (o, count) in [(0, 4094), (1, 4091)] {
+        let fill = |field| match field {
+            Field::Objects => vec![o as u64],
+            Field::Kinds => vec![(NODE_LIMIT - o) as u64],
+            Field::Words => widened(&words),
+            Field::Set => vec![ALL_ORIGINS.into()],
+            Field::Node => vec![0],
+            Field::Kind => vec![o as u64],
+            _ => vec![1],
+        };
+        let lines = longest_derivation(o);
+        let (list, places) = (widened(&lines.concat()), 4 * count);
+        if list.len() != places {
+            return Err(format!("the longest derivation has {} places", list.len()));
+        }
+        let path = (0..=LAST).chain((o..=LAST).rev());
+        let sizes = [NODE_LIMIT, NODE_LIMIT - o];
+        let reason: Vec<u64> = sizes.into_iter().chain(path).map(|it| it as u64).collect();
+        let up = (0..=LAST).map(|v| (LAST - v + 1 + LAST - o) as u64);
+        let down = (0..=LAST).map(|v| if v < o { NO_WAY } else { (v - o) as u64 });
+        let scratch: Vec<u64> = up.chain(down).chain([9]).collect();
+        let written = |list: &[u64], room: usize| match room < list.len() {
+            true => vec![7; room],
+            false => [list, &vec![7; room - list.len()]].concat(),
+        };
+        let nodes = reason.len();
+        for (reason_len, lines_len) in [
+            (nodes + 1, places + 1),
+            (nodes, places),
+            (nodes, places - 1),
+            (nodes - 1, places),
+            (0, 0),
+        ] {
+            let case = Case::filled(operations, "explain", |field| match field {
+                Field::Scratch => vec![9; 2 * NODE_LIMIT + 1],
+                Field::Reason => vec![7; reason_len],
+                Field::Lines => vec![7; lines_len],
+                _ => fill(field),
+            });
+            let answer = match (reason_len < nodes, lines_len < places) {
+                (true, _) => Answer::new(8, nodes as u32, 0),
+                (_, true) => Answer::new(8, places as u32, 1),
+                _ => Answer::new(0, places as u32, nodes as u32),
+            };
+            let front: &[u64] = if answer.number == 0 { &list } else { &[] };
+            let lists = vec![
+                scratch.clone(),
+                written(&reason, reason_len),
+                written(front, lines_len),
+            ];
+            hold(&case, &Outcome { answer, lists }, tally)?;
+        }
+        let mut renamed = list.clone();
+        let crossing = renamed.iter().position(|&it| it == words[LAST].into());
+        renamed[crossing.expect("the derivation has every link") + 2] -= 1;
+        for (list, holds) in [(&list[..], 1), (&list[..places - 4], 0), (&renamed, 0)] {
+            let case = Case::filled(operations, "derivation_check", |field| match field {
+                Field::Derivation => list.to_vec(),
+                _ => fill(field),
+            });
+            let answer = Answer::new(0, holds, 0);
+            hold(&case, &Outcome::unchanged(&case, answer), tally)?;
+        }
+    }
+    Ok(())
+}
+
+/// The lines that the chain's longest path has: up by (3.2), and down by (3.5) under an object, by (3.4) to a kind.
+fn longest_derivation(o: usize) -> Vec<Line> {
+    const LAST: usize = NODE_LIMIT - 1;
+    let link = |v: usize| -> Line { [word(v, v + 1, 0), 0, v as u32, 0] };
+    let mut lines = vec![link(0)];
+    for v in 2..=LAST {
+        let n = lines.len() as u32;
+        lines.extend([link(v - 1), [word(0, v, 0), 2, n - 1, n]]);
+    }
+    let top = lines.len() as u32 - 1;
+    lines.push([word(LAST, LAST, 1), 0, LAST as u32, 0]);
+    if o == 1 {
+        lines.push([word(0, LAST, 1), 4, top, top + 1]);
+    }
+    for v in (o..LAST).rev() {
+        let n = lines.len() as u32;
+        let lower = match o {
+            1 => [word(0, v, 1), 5, n, n - 1],
+            _ => [word(v, LAST, 1), 4, n, n - 1],
+        };
+        lines.extend([link(v), lower]);
+    }
+    if o == 0 {
+        let n = lines.len() as u32;
+        lines.extend([[word(LAST, 0, 1), 3, n - 1, 0], [word(0, 0, 1), 4, top, n]]);
+    }
+    lines
 }
 
 /// A chain that begins with an object, and one of kinds alone. Up to one of its kinds the proof has as many sequents one above another as are allowed; up to the next

@@ -7,9 +7,11 @@
 mod answer;
 mod call;
 mod case;
+mod derivations;
 mod draw;
 mod fields;
 mod limits;
+mod lines;
 mod markers;
 mod nets;
 mod operations;

@@ -9,6 +9,14 @@ _Static_assert(STRUMELKA_ORIGIN_OF(ANY_WORD) == 3u && STRUMELKA_TAIL(ANY_WORD) =
 _Static_assert(STRUMELKA_HEAD(ANY_WORD) == 514u && STRUMELKA_SIGN(ANY_WORD) == STRUMELKA_IS_NOT, "its head and sign");
 _Static_assert((STRUMELKA_FROM(0) | STRUMELKA_FROM(1) | STRUMELKA_FROM(2) | STRUMELKA_FROM(3)) == STRUMELKA_ALL_ORIGINS, "the sets");
 
+/* The longest derivations, and the places of a line. */
+_Static_assert(STRUMELKA_LINES_LIST(7, 0) == 0u && STRUMELKA_LINES_LIST(0, 1) == 4u && STRUMELKA_LINES_LIST(1, 1) == 12u, "lines of one kind");
+_Static_assert(STRUMELKA_LINES_LIST(0, 2) == 24u && STRUMELKA_LINES_LIST(9, 2) == 28u, "lines of two kinds");
+_Static_assert(STRUMELKA_LINES_LIST(0, 1024) == 16376u && STRUMELKA_LINES_LIST(1, 1023) == 16364u, "lines of all nodes");
+_Static_assert(STRUMELKA_LINE_STATEMENT(1) == STRUMELKA_LINE_PLACES && STRUMELKA_LINE_GROUND(1) == 5u, "the statement and the ground");
+_Static_assert(STRUMELKA_LINE_FIRST(1) == 6u && STRUMELKA_LINE_SECOND(1) == 7u, "the numbers");
+_Static_assert(STRUMELKA_GROUND_LINK == 0u && STRUMELKA_GROUND_RULE_1 == 1u && STRUMELKA_GROUND_RULE_5 == 5u, "the grounds");
+
 /* The longest proofs: a kind that is not itself, up and down as many kinds as fit the depth, and an object's with as many links as sequents. */
 _Static_assert(STRUMELKA_PROOF_LIST(0, 1) == 17u && STRUMELKA_PROOF_LIST(9, 127) == 2033u, "proofs of few kinds");
 _Static_assert(STRUMELKA_PROOF_LIST(0, 128) == 2033u && STRUMELKA_PROOF_LIST(1, 128) == 2038u, "proofs of many kinds");
@@ -34,7 +42,7 @@ struct operation {
     const char *name;
     /* The kinds of its fields, in the order of the case and of the C parameters: fields.rs says what each is. */
     const char *fields;
-    /* What a long run has to meet: a number of the table, N=V for number N with the first value V, or N=V,W with both values. */
+    /* What a long run has to meet: a number of the table, N=V for number N with the first value V, or N=V,W with both values; V may be *, any value. */
     const char *outcomes;
     /* How often one of the engines goes through the net for it. The more often, the smaller the nets are that it is drawn for. */
     enum effort effort;
@@ -81,6 +89,12 @@ struct operation {
       NET, NUMBER(4), NUMBER(5), NUMBER(6), HALVES(7), HALVES(8))                               \
     _(reason_check, "o k words set node kind sign path", "0=0 0=1 1 2 15 3 4", ONCE,            \
       NET, NUMBER(4), NUMBER(5), NUMBER(6), HALVES(7))                                          \
+    _(explain, "o k words set node kind sign scratch reason lines",                             \
+      "0 1 2 15 3 4 5 7 8=*,0 8=*,1", ONCE,                                                     \
+      NET, NUMBER(4), NUMBER(5), NUMBER(6), HALVES(7), HALVES(8), WORDS(9))                     \
+    _(derivation_check, "o k words set node kind sign derivation",                              \
+      "0=0 0=1 1 2 15 3 4", ONCE,                                                               \
+      NET, NUMBER(4), NUMBER(5), NUMBER(6), WORDS(7))                                           \
     _(proof, "o k words set node kind sign scratch list", "0 1 2 15 3 4 5 7 11 8", ONCE,        \
       NET, NUMBER(4), NUMBER(5), NUMBER(6), HALVES(7), WORDS(8))                                \
     _(proof_check, "o k words set node kind sign proof",                                        \

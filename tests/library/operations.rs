@@ -83,10 +83,12 @@ fn text(start: *const c_char) -> &'static str {
 
 fn read_outcome(text: &str) -> Met {
     let number = |text: &str| text.parse().expect("outcomes are numbers");
-    let mut numbers = text.split(['=', ',']).map(number);
+    let mut parts = text.split(['=', ',']);
+    let named = parts.next().expect("an outcome has a number");
+    let mut value = || parts.next().filter(|it| *it != "*").map(number);
     Met {
-        number: numbers.next().expect("an outcome has a number"),
-        first: numbers.next(),
-        second: numbers.next(),
+        number: number(named),
+        first: value(),
+        second: value(),
     }
 }

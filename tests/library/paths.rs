@@ -100,6 +100,18 @@ pub fn state(case: &mut Case, x: u32, y: u32, sign: u32) {
     case.set(Field::Sign, widened(&[sign]));
 }
 
+/// Asks for one statement after another, mostly until one passes the test.
+pub fn ask_until(random: &mut Random, net: &Net, case: &mut Case, passes: impl Fn(&Case) -> bool) {
+    for _ in 0..6 {
+        if random.chance(15) || passes(case) {
+            return;
+        }
+        let x = random.below(net.nodes()) as u32;
+        let y = net.o.wrapping_add(random.below(net.k as usize) as u32);
+        state(case, x, y, random.below(2) as u32);
+    }
+}
+
 /// Up to seven more steps of one part.
 fn extend(random: &mut Random, net: &Net, set: u32, part: &mut Vec<u32>, back: bool) {
     for _ in 0..random.below(8) {

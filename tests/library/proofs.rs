@@ -5,7 +5,7 @@ use crate::case::{widened, Case};
 use crate::fields::Field;
 use crate::nets::{head_of, is_chosen, plain, tail_of, word, Net, ALL_ORIGINS};
 use crate::operations::Operation;
-use crate::paths::state;
+use crate::paths::{ask_until, state};
 use crate::random::Random;
 use crate::sequents::{listed, steps_of, Step};
 
@@ -13,14 +13,9 @@ use crate::sequents::{listed, steps_of, Step};
 pub fn draw_proof(random: &mut Random, net: &Net, operations: &[Operation], case: &mut Case) {
     let chosen = case.words_of(Field::Set)[0];
     let set = random.pick(&[chosen, chosen, chosen, ALL_ORIGINS]);
-    for _ in 0..6 {
-        if random.chance(15) || !proof_of(net, set, operations, case).is_empty() {
-            break;
-        }
-        let x = random.below(net.nodes()) as u32;
-        let y = net.o.wrapping_add(random.below(net.k as usize) as u32);
-        state(case, x, y, random.below(2) as u32);
-    }
+    ask_until(random, net, case, |case| {
+        !proof_of(net, set, operations, case).is_empty()
+    });
     let mut steps = proof_of(net, set, operations, case);
     for _ in 0..random.below(4) {
         lengthen(random, net, set, operations, case, &mut steps);

@@ -6,6 +6,7 @@ use std::collections::BTreeSet;
 use crate::call::Outcome;
 use crate::case::{widened, Case};
 use crate::fields::Field;
+use crate::lines::derives;
 use crate::markers::simulated;
 use crate::nets::{head_of, is_chosen, plain, row_size, tail_of, word, ALL_ORIGINS};
 use crate::sequents::verdict;
@@ -188,6 +189,23 @@ pub fn held_to_rules(case: &Case, found: &Outcome) -> Result<bool, String> {
             let [x, y, sign] = [Field::Node, Field::Kind, Field::Sign].map(number);
             let model = case.values_of(Field::Model);
             found.answer.first == satisfied(o, nodes, model, x, y, sign) as u32
+        }
+        "explain" => {
+            let [x, y, sign] = [Field::Node, Field::Kind, Field::Sign].map(number);
+            let goal = word(x, y, sign);
+            let written = found.lists[2].iter().take(found.answer.first as usize);
+            let list: Vec<u32> = written.map(|&it| it as u32).collect();
+            let links = found.answer.second - 3;
+            derives(o, nodes, &words, origins, goal, &list)
+                && found.answer.first <= 4 * (2 * links + 1)
+                && net.set.contains(&goal)
+        }
+        "derivation_check" => {
+            let [x, y, sign] = [Field::Node, Field::Kind, Field::Sign].map(number);
+            let goal = word(x, y, sign);
+            let list = case.words_of(Field::Derivation);
+            let holds = derives(o, nodes, &words, origins, goal, &list);
+            found.answer.first == holds as u32 && (!holds || net.set.contains(&goal))
         }
         "proof" | "proof_check" => {
             let [x, y, sign] = [Field::Node, Field::Kind, Field::Sign].map(number);

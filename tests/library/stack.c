@@ -49,6 +49,16 @@ static uint16_t scratch[2 * (OBJECTS + KINDS)];
 static uint64_t yes[STRUMELKA_ROWS(OBJECTS, KINDS)];
 static uint64_t no[STRUMELKA_ROWS(OBJECTS, KINDS)];
 static uint16_t reason[16];
+static uint32_t lines[STRUMELKA_LINES_LIST(OBJECTS, KINDS)];
+
+/* The derivation of 0 is not of 26. */
+static uint32_t derivation[] = {
+    STRUMELKA_WORD(0, 24, STRUMELKA_IS),      STRUMELKA_GROUND_LINK,   0, 0,
+    STRUMELKA_WORD(24, 25, STRUMELKA_IS),     STRUMELKA_GROUND_LINK,   1, 0,
+    STRUMELKA_WORD(0, 25, STRUMELKA_IS),      STRUMELKA_GROUND_RULE_2, 0, 1,
+    STRUMELKA_WORD(25, 26, STRUMELKA_IS_NOT), STRUMELKA_GROUND_LINK,   2, 0,
+    STRUMELKA_WORD(0, 26, STRUMELKA_IS_NOT),  STRUMELKA_GROUND_RULE_4, 2, 3,
+};
 
 /* A proof that 0 is not of 26, as deep as is allowed, and deep in left premises: it goes by 25, shown by way of 24, and that 0 is of 24 is shown by way of
  * itself, over and over. */
@@ -92,6 +102,8 @@ static const struct {
     {"scratch", {0, scratch, COUNT(scratch)}},
     {"reason", {0, reason, COUNT(reason)}},
     {"path", {0, path, COUNT(path)}},
+    {"lines", {0, lines, COUNT(lines)}},
+    {"derivation", {0, derivation, COUNT(derivation)}},
     {"proof", {0, proof, COUNT(proof)}},
     {"program", {0, program, COUNT(program)}},
     {"commands", {UINT32_MAX, NULL, 0}},

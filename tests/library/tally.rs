@@ -25,6 +25,7 @@ impl Met {
     fn text(self) -> String {
         match (self.first, self.second) {
             (Some(first), Some(second)) => format!("{}={},{}", self.number, first, second),
+            (None, Some(second)) => format!("{}=*,{}", self.number, second),
             (Some(first), None) => format!("{}={}", self.number, first),
             _ => self.number.to_string(),
         }

@@ -25,6 +25,7 @@ use Rattle.completion.specs.declared.Completed.the-variants as completed
 use Rattle.compact.specs.Table.{CompactionOutcome, compactedReply}
 use Rattle.mend.specs.Table.{MendingOutcome, mendedReply}
 use Rattle.reason.specs.Table.{ReasonOutcome, reasonedReply}
+use Rattle.explain.specs.Table.{ExplainOutcome, explainedReply}
 use Rattle.proof.specs.Table.{ProofOutcome, provedReply}
 use Rattle.valuation.specs.Table.{ValuationOutcome, filledReply}
 use Rattle.rows_completion.specs.Table.{RowsOutcome, rowsOutcome, rowsClauses, rowsDone, completedByRows}
@@ -55,6 +56,10 @@ mendingGives s = mendedReply (s .answer)
 -- The reply of what a reason leaves.
 abbrev pub reasonGives : ReasonOutcome → Reply
 reasonGives s = reasonedReply (s .answer)
+
+-- The reply of what an explanation leaves.
+abbrev pub explainGives : ExplainOutcome → Reply
+explainGives s = explainedReply (s .answer)
 
 -- The reply of what a proof leaves.
 abbrev pub proofGives : ProofOutcome → Reply

@@ -1,5 +1,6 @@
-// The answers of scan, question, screenful of questions, clash test, completion, compaction, mending, reason, reason check, proof, proof check,
-// valuation and its test, question of rows and marker unit, each as a reply. That of a completion by rows is a completion's.
+// The answers of scan, question, screenful of questions, clash test, completion, compaction, mending, reason, reason check, explanation, proof,
+// proof check, valuation and its test, question of rows and marker unit, each as a reply. That of a completion by rows is a completion's, and that
+// of the check of a derivation a reason check's.
 ghost use mathlib.Core.Path.{_≡_};
 ghost use Rattle.scan.specs.Table.{scanReply};
 ghost use Rattle.question.specs.Table.{askedReply};
@@ -10,6 +11,7 @@ ghost use Rattle.compact.specs.Table.{compactedReply};
 ghost use Rattle.mend.specs.Table.{mendedReply};
 ghost use Rattle.reason.specs.Table.{reasonedReply};
 ghost use Rattle.reason_check.specs.Table.{verdictReply};
+ghost use Rattle.explain.specs.Table.{explainedReply};
 ghost use Rattle.proof.specs.Table.{provedReply};
 ghost use Rattle.proof_check.specs.Table.{judgedReply};
 ghost use Rattle.valuation.specs.Table.{filledReply};
@@ -20,6 +22,7 @@ ghost use Rattle.library_reply.specs.Fits.{Fits};
 use clash::Clashed;
 use compact::CompactedList;
 use completion::Completed;
+use explain::Explained;
 use mend::MendedNet;
 use net::Reply;
 use net::refusal_given;
@@ -126,7 +129,7 @@ pub fn reasoned_given(reasoned: Reasoned) -> Reply
     }
 }
 
-// The reply of the check of a reason.
+// The reply of the check of a reason, or of a derivation.
 pub fn verdict_given(verdict: Verdict) -> Reply
     ensures { λ r. ⌜ r ≡ verdictReply verdict ⌝ }
 {
@@ -134,6 +137,19 @@ pub fn verdict_given(verdict: Verdict) -> Reply
         Verdict::Holds => reply_of(0, 1, 0),
         Verdict::Fails => reply_of(0, 0, 0),
         Verdict::Refused(refusal) => refusal_given(refusal),
+    }
+}
+
+// The reply of an explanation.
+pub fn explained_given(explained: Explained) -> Reply
+    ensures { λ r. ⌜ r ≡ explainedReply explained ⌝ }
+{
+    match explained {
+        Explained::Done(lines, places) => reply_of(0, lines, places),
+        Explained::Unsupported => reply_of(7, 0, 0),
+        Explained::ShortReason(needed) => reply_of(8, needed, 0),
+        Explained::ShortLines(needed) => reply_of(8, needed, 1),
+        Explained::Refused(refusal) => refusal_given(refusal),
     }
 }
 

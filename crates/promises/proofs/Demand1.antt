@@ -1,10 +1,12 @@
 -- Demand 1, kept by our engine: whatever numbers and buffers a call is given, its number is that of the first clause that applies, each buffer is
 -- left as that clause says, and where no clause applies the call is done. Nothing is asked of the caller.
-use Prim.Native.Nat.{ℕ, zero, suc, _+_}
+use Prim.Native.Nat.{ℕ, zero, suc, _+_, _*_}
 use mathlib.Core.Path.{_≡_, refl, sym}
 use mathlib.Core.Bool.{Bool, true, false, cond}
 use mathlib.Core.List.{List, []}
 use lib.Dec.{ltb}
+use lib.ListN.{length}
+use Rattle.theory_laws.specs.Over.{over}
 use Rattle.theory_laws.proofs.Booleans.{contradiction}
 use Rattle.theory.specs.Words.{signAt}
 use Rattle.theory.specs.Completion.{fullMarks, complete}
@@ -23,11 +25,15 @@ use Rattle.clash.specs.declared.Clashed.the-variants as clashed
 use Rattle.completion.specs.Table.{completionTable, completionDone, completedBy}
 use Rattle.compact.specs.Table.{compactionTable, compactionDone, compactedBy}
 use Rattle.mend.specs.Table.{mendingTable, mendingDone, mendedBy}
-use Rattle.reason.specs.Table.{reasonTable, reasonDone, reasoned}
+use Rattle.reason.specs.Table.{filled, reasonOf, reasonTable, reasonDone, reasoned}
 use Rattle.reason_check.specs.Table.{checkTable, checkDone, verdict}
 use Rattle.reason_check.specs.declared.Verdict.the-variants.{Holds, Fails}
 use Rattle.proof.specs.Table.{proofTable, proofDone, proved}
 use Rattle.proof_check.specs.Table.{judgedTable, judgedDone, judged}
+use Rattle.derivation_lines.specs.Lines.{Line}
+use Rattle.explain.specs.Table.{explainOutcome, explaining, roomless, explainTable, explainDone, explained}
+use Rattle.explain.specs.declared.Explained.the-variants as explainedAs
+use Rattle.derivation_check.specs.Table.{accepts, linesDone, linesVerdict}
 use Rattle.unit.specs.Table.{unitTable, unitDone, simulated}
 use Rattle.theory.specs.Valuations.{satisfies}
 use Rattle.valuation.specs.Values.{ownValues}
@@ -44,7 +50,7 @@ use Rattle.question.specs.Table.{questionTable, questionDone}
 use Rattle.questions.specs.Table.{questionsTable, questionsDone, questionedAll}
 use Rattle.netfile.specs.Table.{readFrom, fileTable, fileDone}
 use Rattle.netfile.proofs.Called.{file-called}
-use Rattle.promises.specs.Numbers.{wordNumber, checkedNumber, scanNumber, questionNumber, clashNumber, completionNumber, reasonNumber, verdictNumber, questionsNumber, compactionNumber, mendingNumber, valuationNumber, satisfiesNumber, rowsNumber, answerInRowsNumber, proofNumber, proofCheckNumber, unitNumber, fileNumber}
+use Rattle.promises.specs.Numbers.{wordNumber, checkedNumber, scanNumber, questionNumber, clashNumber, completionNumber, reasonNumber, verdictNumber, questionsNumber, compactionNumber, mendingNumber, valuationNumber, satisfiesNumber, rowsNumber, answerInRowsNumber, proofNumber, proofCheckNumber, unitNumber, explanationNumber, fileNumber}
 use Rattle.promises.specs.Engines.{ours}
 use Rattle.promises.specs.Demand1.{Demand1}
 use Rattle.promises.proofs.Deciding.{obeys}
@@ -64,6 +70,14 @@ clash-found o k ws x (suc j) e =
 verdict-done : (q : Bool) → verdictNumber (cond q Holds Fails) ≡ 0
 verdict-done true = refl
 verdict-done false = refl
+
+-- Whichever list is too short, the number is 8.
+roomless-number : (all : List ℕ) (ls : List Line) (past m l : List ℕ) → explanationNumber (roomless all ls past m l) ≡ 8
+roomless-number all ls past m l = at (ltb (length m) (length all))
+  where
+    at : (q : Bool) → explanationNumber (cond q (explainOutcome (explainedAs.ShortReason (length all)) past m l) (explainOutcome (explainedAs.ShortLines (4 * length ls)) past (over all m) l)) ≡ 8
+    at true = refl
+    at false = refl
 
 tested-done : (q : Bool) → satisfiesNumber (cond q tested.Holds tested.Fails) ≡ 0
 tested-done true = refl
@@ -147,6 +161,19 @@ module _ (o k : ℕ) (ws : List ℕ) (set : ℕ) where
       obeys proofCheckNumber _ _ (record { numbered = (refl, (refl, (refl, (refl, (refl, (refl, tt)))))); once = refl; nonzero = refl; zero = λ h. refl }) _
       refl
 
+  -- The explanation: numbers 1, 2, 15, 3 to 5, 7 and 8, or 0.
+  pub explanation-obeys : (x y sign : ℕ) (d m l : List ℕ)
+      → Obeys explanationNumber (explainTable o k ws set x y sign d m l) (explainDone (chosen set ws) (explaining o ws set x y sign (o + k)) x y sign d m l (o + k)) (explained o k ws set x y sign d m l)
+  explanation-obeys x y sign d m l =
+      obeys explanationNumber _ _ (record { numbered = (refl, (refl, (refl, (refl, (refl, (refl, (refl, (roomless-number (reasonOf (chosen set ws) x y sign (o + k)) (explaining o ws set x y sign (o + k)) (filled (chosen set ws) y sign d (o + k)) m l, tt)))))))); once = refl; nonzero = refl; zero = λ h. refl }) _
+      refl
+
+  -- The derivation check: numbers 1, 2, 15, 3 and 4, or 0.
+  pub derivation-check-obeys : (x y sign : ℕ) (l : List ℕ) → Obeys verdictNumber (checkTable o k ws set x y sign) (linesDone o k set ws x y sign l) (linesVerdict o k ws set x y sign l)
+  derivation-check-obeys x y sign l =
+      obeys verdictNumber _ _ (record { numbered = (refl, (refl, (refl, (refl, (refl, tt))))); once = refl; nonzero = refl; zero = λ h. verdict-done (accepts o k set ws x y (signAt sign) l) }) _
+      refl
+
   -- The marker unit: numbers 1, 2, 15, 3, 5, 16 and 6, or 0.
   pub unit-obeys : (program : List ℕ) (budget : ℕ) (m : List ℕ) → Obeys unitNumber (unitTable o k ws set program budget m) (unitDone (chosen set ws) program budget m (o + k)) (simulated o k ws set program budget m)
   unit-obeys program budget m =
@@ -206,4 +233,6 @@ demand-1 = record {
   proof = proof-obeys;
   proofCheck = proof-check-obeys;
   unit = unit-obeys;
+  explanation = explanation-obeys;
+  derivationCheck = derivation-check-obeys;
 }

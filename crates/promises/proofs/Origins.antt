@@ -21,6 +21,7 @@ use Rattle.promises.proofs.ReorderedValues.{valuation-order}
 use Rattle.promises.proofs.ReorderedRows.{rows-order}
 use Rattle.promises.proofs.ReorderedProofs.{proof-order, proof-check-order}
 use Rattle.promises.proofs.ReorderedUnit.{unit-order}
+use Rattle.promises.proofs.ReorderedLines.{explanation-order}
 use Rattle.promises.proofs.NetAnswers.{keeps-said}
 use Rattle.promises.proofs.Demand3.{plain-read}
 
@@ -40,6 +41,7 @@ same-operations o k ws set vs set′ n p to back = record {
   proof = proof-order o k ws set vs set′ n p to back;
   proofCheck = proof-check-order o k ws set vs set′ n p to back;
   unit = unit-order o k ws set vs set′ n p to back;
+  explanation = explanation-order o k ws set vs set′ n p to back;
 }
 
 -- A net without its second word is a net.

@@ -101,12 +101,16 @@ module _ (o k : ℕ) (ws : List ℕ) (set x y sign : ℕ) (d l : List ℕ) where
       (λ g. both room (clause-7-reason o k (chosen set ws) net x (g .pair .node) y (good-kind (g .pair)) (signAt sign)))))
 
   module _ (net : Net o k (chosen set ws)) (g : GoodStatement o (o + k) x y sign) where
-    -- No second number of places is the shortest reason's.
+    -- No second path is the shortest reason's,
+    pub one-path : (a b : ℕ) (r : ReasonOf o k (chosen set ws) x y sign a) (q : ReasonOf o k (chosen set ws) x y sign b) → (r .xs ≡ q .xs) × (r .ys ≡ q .ys)
+    one-path a b r q =
+        shortest-unique o k (Links (chosen set ws)) (legal-links o k (chosen set ws) (net .legal)) x (g .pair .node) y (good-kind (g .pair)) (signAt sign) (r .xs) (r .ys) (q .xs) (q .ys) (r .shortest)
+        (q .shortest)
+
+    -- and no second number of places.
     pub one-size : (a b : ℕ) → ReasonOf o k (chosen set ws) x y sign a → ReasonOf o k (chosen set ws) x y sign b → a ≡ b
     one-size a b r q =
-        let (e, f) =
-        shortest-unique o k (Links (chosen set ws)) (legal-links o k (chosen set ws) (net .legal)) x (g .pair .node) y (good-kind (g .pair)) (signAt sign) (r .xs) (r .ys) (q .xs) (q .ys) (r .shortest)
-        (q .shortest) in
+        let (e, f) = one-path a b r q in
         r .long ∙ ap (λ (v : List ℕ). length (written x v (r .ys))) e ∙ ap (λ (v : List ℕ). length (written x (q .xs) v)) f ∙ sym (q .long)
 
     -- What has a reason is supported.
@@ -115,21 +119,35 @@ module _ (o k : ℕ) (ws : List ℕ) (set x y sign : ℕ) (d l : List ℕ) where
         lemma1 o k (Links (chosen set ws)) (legal-links o k (chosen set ws) (net .legal)) x y (signAt sign) .1
         (r .xs, r .ys, strict-shows o k (Links (chosen set ws)) x y (signAt sign) (r .xs) (r .ys) (good-kind (g .pair)) (r .shortest .path))
 
-    -- Past clause 7 there is a shortest reason, and its places are those of the reason computed.
-    pub has : (P : ℕ → Type 0) {D : Type 0} → D ↔ P (length (reasonOf (chosen set ws) x y sign (o + k)))
-        → ((eqb (getD (distances (o + k) (signAt sign) (chosen set ws) y) x never) never ≡ false) × D) ↔ ((size : ℕ) × ReasonOf o k (chosen set ws) x y sign size × P size)
-    has P {D} f = (there, back)
+    abbrev all : List ℕ
+    all = reasonOf (chosen set ws) x y sign (o + k)
+
+    -- Past clause 7 there is a shortest reason, its path and its places are those of the reason computed, and P holds of them exactly if D does.
+    pub has-path : (P : ℕ → List ℕ → List ℕ → Type 0) {D : Type 0}
+        → ((xs ys : List ℕ) → all ≡ written x xs ys → D ↔ P (length all) xs ys)
+        → ((eqb (getD (distances (o + k) (signAt sign) (chosen set ws) y) x never) never ≡ false) × D)
+        ↔ ((size : ℕ) × (r : ReasonOf o k (chosen set ws) x y sign size) × P size (r .xs) (r .ys))
+    has-path P {D} f = (there, back)
       where
-        found : eqb (getD (distances (o + k) (signAt sign) (chosen set ws) y) x never) never ≡ false → ReasonOf o k (chosen set ws) x y sign (length (reasonOf (chosen set ws) x y sign (o + k)))
-        found e = reason-of o k (chosen set ws) x y sign net (g .pair .node) (good-kind (g .pair)) e _ refl .0
+        found : eqb (getD (distances (o + k) (signAt sign) (chosen set ws) y) x never) never ≡ false → (r : ReasonOf o k (chosen set ws) x y sign (length all)) × (all ≡ written x (r .xs) (r .ys))
+        found e = reason-of o k (chosen set ws) x y sign net (g .pair .node) (good-kind (g .pair)) e _ refl
 
-        there : (eqb (getD (distances (o + k) (signAt sign) (chosen set ws) y) x never) never ≡ false) × D → ((size : ℕ) × ReasonOf o k (chosen set ws) x y sign size × P size)
-        there p = (length (reasonOf (chosen set ws) x y sign (o + k)), found (p .0), f .0 (p .1))
+        there : (eqb (getD (distances (o + k) (signAt sign) (chosen set ws) y) x never) never ≡ false) × D → ((size : ℕ) × (r : ReasonOf o k (chosen set ws) x y sign size) × P size (r .xs) (r .ys))
+        there p = let (r, w) = found (p .0) in (length all, r, f (r .xs) (r .ys) w .0 (p .1))
 
-        back : ((size : ℕ) × ReasonOf o k (chosen set ws) x y sign size × P size) → (eqb (getD (distances (o + k) (signAt sign) (chosen set ws) y) x never) never ≡ false) × D
+        back : ((size : ℕ) × (r : ReasonOf o k (chosen set ws) x y sign size) × P size (r .xs) (r .ys)) → (eqb (getD (distances (o + k) (signAt sign) (chosen set ws) y) x never) never ≡ false) × D
         back (size, r, p) =
             let some = away-exactly o k (chosen set ws) net x (g .pair .node) y (good-kind (g .pair)) (signAt sign) .1 (shown size r) in
-            (some, f .1 (subst P (one-size size _ r (found some)) p))
+            let (q, w) = found some in
+            let (a, b) = one-path size (length all) r q in
+            let same : P (length all) (q .xs) (q .ys) =
+            subst (λ (n : ℕ). P n (q .xs) (q .ys)) (one-size size (length all) r q) (subst (λ (v : List ℕ). P size v (q .ys)) a (subst (P size (r .xs)) b p)) in
+            (some, f (q .xs) (q .ys) w .1 same)
+
+    -- The same of its places alone.
+    pub has : (P : ℕ → Type 0) {D : Type 0} → D ↔ P (length all)
+        → ((eqb (getD (distances (o + k) (signAt sign) (chosen set ws) y) x never) never ≡ false) × D) ↔ ((size : ℕ) × ReasonOf o k (chosen set ws) x y sign size × P size)
+    has P f = has-path (λ size xs ys. P size) (λ xs ys w. f)
 
   -- 8: there is a shortest reason, and as it is written it has more places than the list.
   pub reason-8 : (reasonNumber (reasoned o k ws set x y sign d l) ≡ 8)

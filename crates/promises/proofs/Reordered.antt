@@ -116,7 +116,7 @@ module _ (o k : ℕ) (ws vs : List ℕ) (n : Net o k ws) (p : Net o k vs) (to : 
       at false f = rw (states-same y kind (signAt sign) x node (near o k ws x y sign n node kind f))
 
   -- The tests of the reason check are the same: of one link, of all steps, of the list.
-  listed-same : (x y : ℕ) (s : Sign) → listed x y (signNumber s) ws ≡ listed x y (signNumber s) vs
+  pub listed-same : (x y : ℕ) (s : Sign) → listed x y (signNumber s) ws ≡ listed x y (signNumber s) vs
   listed-same x y s =
       same-test (listed x y (signNumber s) ws) (listed x y (signNumber s) vs)
       (λ e. listed-exactly x y s vs .1 (links-into ws vs to x y s (listed-exactly x y s ws .0 e)))

@@ -30,6 +30,9 @@ use Rattle.proof.specs.Table.{ProofOutcome, proofOutcome, proved}
 use Rattle.proof.specs.declared.Proved.{Proved}
 use Rattle.proof_check.specs.Table.{judged}
 use Rattle.proof_check.specs.declared.Judged.{Judged}
+use Rattle.explain.specs.Table.{ExplainOutcome, explainOutcome, explained}
+use Rattle.explain.specs.declared.Explained.{Explained}
+use Rattle.derivation_check.specs.Table.{linesVerdict}
 use Rattle.unit.specs.Table.{UnitOutcome, unitOutcome, simulated}
 use Rattle.unit.specs.declared.Simulated.{Simulated}
 use Rattle.valuation.specs.Table.{ValuationOutcome, valuationOutcome, filledBy}
@@ -118,6 +121,18 @@ module _ (o k : ℕ) (ws : List ℕ) (set : ℕ) where
   -- The proof check, which is lent nothing to write to.
   pub proof-check-unique : (x y sign : ℕ) (list : List ℕ) (r q : Judged) → r ≡ judged o k ws set x y sign list → q ≡ judged o k ws set x y sign list → r ≡ q
   proof-check-unique x y sign list r q e f = both-are r q e f
+
+  -- The explanation: m and l the scratches, c and d the lists of the reason, a and b those of lines left.
+  pub explanation-unique : (x y sign : ℕ) (scratch list lines : List ℕ) (r q : Explained) (m l c d a b : List ℕ)
+      → explainOutcome r m c a ≡ explained o k ws set x y sign scratch list lines → explainOutcome q l d b ≡ explained o k ws set x y sign scratch list lines
+      → (r ≡ q) × (m ≡ l) × (c ≡ d) × (a ≡ b)
+  explanation-unique x y sign scratch list lines r q m l c d a b e f =
+      let p = both-are (explainOutcome r m c a) (explainOutcome q l d b) e f in
+      (ap (λ (s : ExplainOutcome). s .answer) p, ap (λ (s : ExplainOutcome). s .scratch) p, ap (λ (s : ExplainOutcome). s .list) p, ap (λ (s : ExplainOutcome). s .lines) p)
+
+  -- The derivation check, which is lent nothing to write to.
+  pub derivation-check-unique : (x y sign : ℕ) (list : List ℕ) (r q : Verdict) → r ≡ linesVerdict o k ws set x y sign list → q ≡ linesVerdict o k ws set x y sign list → r ≡ q
+  derivation-check-unique x y sign list r q e f = both-are r q e f
 
   -- The valuation: m and l the tables, c and d the marks left.
   pub valuation-unique : (table marks : List ℕ) (r q : Filled) (m l c d : List ℕ)

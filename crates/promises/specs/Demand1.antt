@@ -21,6 +21,8 @@ use Rattle.reason.specs.Table.{reasonTable, reasonDone}
 use Rattle.reason_check.specs.Table.{checkTable, checkDone}
 use Rattle.proof.specs.Table.{proofTable, proofDone}
 use Rattle.proof_check.specs.Table.{judgedTable, judgedDone}
+use Rattle.explain.specs.Table.{explaining, explainTable, explainDone}
+use Rattle.derivation_check.specs.Table.{linesDone}
 use Rattle.unit.specs.Table.{unitTable, unitDone}
 use Rattle.valuation.specs.Values.{ownValues}
 use Rattle.valuation.specs.Table.{valuationTable, valuationDone}
@@ -28,7 +30,7 @@ use Rattle.satisfies.specs.Table.{satisfiesTable, satisfiesDone}
 use Rattle.rows_completion.specs.Table.{rowsTable, rowsDone}
 use Rattle.rows_answer.specs.Table.{answerInRows, answerTable}
 use Rattle.rows_answer.specs.declared.Answered.the-variants as answered
-use Rattle.promises.specs.Numbers.{wordNumber, checkedNumber, scanNumber, questionNumber, clashNumber, completionNumber, reasonNumber, verdictNumber, questionsNumber, compactionNumber, mendingNumber, valuationNumber, satisfiesNumber, rowsNumber, answerInRowsNumber, proofNumber, proofCheckNumber, unitNumber}
+use Rattle.promises.specs.Numbers.{wordNumber, checkedNumber, scanNumber, questionNumber, clashNumber, completionNumber, reasonNumber, verdictNumber, questionsNumber, compactionNumber, mendingNumber, valuationNumber, satisfiesNumber, rowsNumber, answerInRowsNumber, proofNumber, proofCheckNumber, unitNumber, explanationNumber}
 use Rattle.promises.specs.Engines.{Engine}
 
 pub record Demand1 (e : Engine) : Type 0 where
@@ -64,3 +66,7 @@ pub record Demand1 (e : Engine) : Type 0 where
       → Obeys proofCheckNumber (judgedTable o k ws set x y sign l) judgedDone (e .proofCheck o k ws set x y sign l)
   pub unit : (o k : ℕ) (ws : List ℕ) (set : ℕ) (program : List ℕ) (budget : ℕ) (m : List ℕ)
       → Obeys unitNumber (unitTable o k ws set program budget m) (unitDone (chosen set ws) program budget m (o + k)) (e .unit o k ws set program budget m)
+  pub explanation : (o k : ℕ) (ws : List ℕ) (set x y sign : ℕ) (d m l : List ℕ)
+      → Obeys explanationNumber (explainTable o k ws set x y sign d m l) (explainDone (chosen set ws) (explaining o ws set x y sign (o + k)) x y sign d m l (o + k)) (e .explanation o k ws set x y sign d m l)
+  pub derivationCheck : (o k : ℕ) (ws : List ℕ) (set x y sign : ℕ) (l : List ℕ)
+      → Obeys verdictNumber (checkTable o k ws set x y sign) (linesDone o k set ws x y sign l) (e .derivationCheck o k ws set x y sign l)

@@ -27,6 +27,8 @@ use Rattle.reason_check.specs.declared.Verdict.{Verdict}
 use Rattle.proof.specs.Table.{ProofOutcome, proved}
 use Rattle.proof_check.specs.Table.{judged}
 use Rattle.proof_check.specs.declared.Judged.{Judged}
+use Rattle.explain.specs.Table.{ExplainOutcome, explained}
+use Rattle.derivation_check.specs.Table.{linesVerdict}
 use Rattle.unit.specs.Table.{UnitOutcome, simulated}
 use Rattle.valuation.specs.Table.{ValuationOutcome, filledBy}
 use Rattle.satisfies.specs.Table.{testedBy}
@@ -57,6 +59,8 @@ pub record Engine : Type 0 where
   pub proof : ℕ → ℕ → List ℕ → ℕ → ℕ → ℕ → ℕ → List ℕ → List ℕ → ProofOutcome
   pub proofCheck : ℕ → ℕ → List ℕ → ℕ → ℕ → ℕ → ℕ → List ℕ → Judged
   pub unit : ℕ → ℕ → List ℕ → ℕ → List ℕ → ℕ → List ℕ → UnitOutcome
+  pub explanation : ℕ → ℕ → List ℕ → ℕ → ℕ → ℕ → ℕ → List ℕ → List ℕ → List ℕ → ExplainOutcome
+  pub derivationCheck : ℕ → ℕ → List ℕ → ℕ → ℕ → ℕ → ℕ → List ℕ → Verdict
 
 -- A net whose words have origins, and a set of origins to read it with.
 pub record Read (o k : ℕ) (ws : List ℕ) (set : ℕ) : Type 0 where
@@ -89,6 +93,8 @@ ours = record {
   proof = proved;
   proofCheck = judged;
   unit = simulated;
+  explanation = explained;
+  derivationCheck = linesVerdict;
 }
 
 -- What a scan leaves, done or spent, with the bytes `past` behind its marks.
@@ -126,6 +132,8 @@ withScan f = record {
   proof = ours .proof;
   proofCheck = ours .proofCheck;
   unit = ours .unit;
+  explanation = ours .explanation;
+  derivationCheck = ours .derivationCheck;
 }
 
 abbrev pub withQuestion : (ℕ → ℕ → List ℕ → ℕ → ℕ → ℕ → List ℕ → QuestionOutcome) → Engine
@@ -148,6 +156,8 @@ withQuestion f = record {
   proof = ours .proof;
   proofCheck = ours .proofCheck;
   unit = ours .unit;
+  explanation = ours .explanation;
+  derivationCheck = ours .derivationCheck;
 }
 
 abbrev pub withCompletion : (ℕ → ℕ → List ℕ → ℕ → List ℕ → List ℕ → CompletionOutcome) → Engine
@@ -170,4 +180,6 @@ withCompletion f = record {
   proof = ours .proof;
   proofCheck = ours .proofCheck;
   unit = ours .unit;
+  explanation = ours .explanation;
+  derivationCheck = ours .derivationCheck;
 }

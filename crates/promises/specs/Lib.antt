@@ -10,6 +10,7 @@ pub mod AskingAll
 pub mod Valuing
 pub mod ByRows
 pub mod Proving
+pub mod Explaining
 pub mod Simulating
 pub mod Demand3
 pub mod FromKind

@@ -17,6 +17,7 @@ use Rattle.reason_check.specs.declared.Verdict.{Verdict}
 use Rattle.proof.specs.Table.{ProofOutcome, provedReply}
 use Rattle.proof_check.specs.Table.{judgedReply}
 use Rattle.proof_check.specs.declared.Judged.{Judged}
+use Rattle.explain.specs.Table.{ExplainOutcome, explainedReply}
 use Rattle.unit.specs.Table.{UnitOutcome, simulatedReply}
 use Rattle.valuation.specs.Table.{ValuationOutcome, filledReply}
 use Rattle.satisfies.specs.Table.{testedReply}
@@ -80,6 +81,9 @@ proofCheckNumber r = judgedReply r .number
 
 abbrev pub unitNumber : UnitOutcome → ℕ
 unitNumber r = simulatedReply (r .answer) .number
+
+abbrev pub explanationNumber : ExplainOutcome → ℕ
+explanationNumber r = explainedReply (r .answer) .number
 
 abbrev pub fileNumber : FileOutcome → ℕ
 fileNumber r = contentsReply (r .contents) .number

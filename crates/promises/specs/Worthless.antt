@@ -32,6 +32,8 @@ use Rattle.reason_check.specs.declared.Verdict.the-variants as verdictAs
 use Rattle.proof.specs.Table.{proofOutcome}
 use Rattle.proof.specs.declared.Proved.the-variants as provedAs
 use Rattle.proof_check.specs.declared.Judged.the-variants as judgedAs
+use Rattle.explain.specs.Table.{explainOutcome}
+use Rattle.explain.specs.declared.Explained.the-variants as explainedAs
 use Rattle.unit.specs.Table.{unitOutcome}
 use Rattle.unit.specs.declared.Simulated.the-variants as simulatedAs
 use Rattle.valuation.specs.Table.{valuationOutcome}
@@ -64,6 +66,8 @@ refuser r = record {
   proof = λ o k ws set x y sign d l. proofOutcome (provedAs.Refused r) d l;
   proofCheck = λ o k ws set x y sign l. judgedAs.Refused r;
   unit = λ o k ws set program budget m. unitOutcome (simulatedAs.Refused r) m;
+  explanation = λ o k ws set x y sign d m l. explainOutcome (explainedAs.Refused r) d m l;
+  derivationCheck = λ o k ws set x y sign l. verdictAs.Refused r;
 }
 
 -- An answer turned into none.
@@ -136,4 +140,6 @@ hasty = record {
   proof = ours .proof;
   proofCheck = ours .proofCheck;
   unit = ours .unit;
+  explanation = ours .explanation;
+  derivationCheck = ours .derivationCheck;
 }

@@ -2,6 +2,7 @@
 ghost use Prim.Native.Nat.{_≤_};
 use crate::other;
 use crate::proved;
+use readings_cases::buffers::lend_lines;
 use readings_cases::buffers::lend_links;
 use readings_cases::buffers::lend_list;
 use readings_cases::buffers::lend_marks;
@@ -13,6 +14,7 @@ use readings_cases::buffers::lend_scratch;
 use readings_cases::buffers::lend_table;
 use readings_cases::buffers::lend_text;
 use readings_cases::buffers::take_answers;
+use readings_cases::buffers::take_lines;
 use readings_cases::buffers::take_links;
 use readings_cases::buffers::take_list;
 use readings_cases::buffers::take_marks;
@@ -496,6 +498,84 @@ fn on_proof_check(engine: Engine, n: Numbers, words: &[u32], list: &[u32]) -> Re
     }
 }
 
+// The explanation, with the first places of scratch, list and lines.
+fn on_lines(
+    engine: Engine,
+    n: Numbers,
+    words: &[u32],
+    first: usize,
+    second: usize,
+    third: usize,
+    scratch: &mut [u16],
+    list: &mut [u16],
+    lines: &mut [u32],
+) -> Reply {
+    let a = least(first, scratch.len());
+    let b = least(second, list.len());
+    let c = least(third, lines.len());
+    match engine {
+        Engine::Proved => proved::on_lines(
+            n,
+            words,
+            &mut scratch[..a],
+            &mut list[..b],
+            &mut lines[..c],
+        ),
+        Engine::Second => other::on_lines(
+            n,
+            words,
+            &mut scratch[..a],
+            &mut list[..b],
+            &mut lines[..c],
+        ),
+    }
+}
+
+// The same, with the three buffers.
+fn with_lines(
+    engine: Engine,
+    n: Numbers,
+    words: &[u32],
+    first: usize,
+    second: usize,
+    third: usize,
+    buffers: &mut [u32],
+) -> Reply {
+    let mut scratch = [0u16; 4096];
+    let mut list = [0u16; 4096];
+    let mut lines = [0u32; 16384];
+    lend_lines(
+        first,
+        second,
+        third,
+        buffers,
+        &mut scratch,
+        &mut list,
+        &mut lines,
+    );
+    let reply = on_lines(
+        engine,
+        n,
+        words,
+        first,
+        second,
+        third,
+        &mut scratch,
+        &mut list,
+        &mut lines,
+    );
+    take_lines(first, second, third, &scratch, &list, &lines, buffers);
+    reply
+}
+
+// The check of a derivation.
+fn on_derivation_check(engine: Engine, n: Numbers, words: &[u32], list: &[u32]) -> Reply {
+    match engine {
+        Engine::Proved => proved::on_derivation_check(n, words, list),
+        Engine::Second => other::on_derivation_check(n, words, list),
+    }
+}
+
 // The unit, with the first places of marks.
 fn on_unit(
     engine: Engine,
@@ -596,6 +676,10 @@ pub fn run(
         Operation::Proof => with_proof(engine, n, words, first, second, buffers),
         Operation::ProofCheck => {
             on_proof_check(engine, n, words, numbers_from(buffers, 0, first))
+        }
+        Operation::Explain => with_lines(engine, n, words, first, second, third, buffers),
+        Operation::DerivationCheck => {
+            on_derivation_check(engine, n, words, numbers_from(buffers, 0, first))
         }
         Operation::Unit => with_unit(engine, n, words, first, second, buffers),
         Operation::File => with_file(engine, first, buffers),

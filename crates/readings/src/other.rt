@@ -114,6 +114,33 @@ pub fn on_unit(n: Numbers, words: &[u32], program: &[u32], marks: &mut [u8]) -> 
     second::unit(n.o, n.k, words, n.set, program, n.x, marks)
 }
 
+// The explanation.
+pub fn on_lines(
+    n: Numbers,
+    words: &[u32],
+    scratch: &mut [u16],
+    list: &mut [u16],
+    lines: &mut [u32],
+) -> Reply {
+    second::explain(
+        n.o,
+        n.k,
+        words,
+        n.set,
+        n.x,
+        n.y,
+        n.sign,
+        scratch,
+        list,
+        lines,
+    )
+}
+
+// The check of a derivation.
+pub fn on_derivation_check(n: Numbers, words: &[u32], list: &[u32]) -> Reply {
+    second::derivation_check(n.o, n.k, words, n.set, n.x, n.y, n.sign, list)
+}
+
 // The contents of a file.
 pub fn on_file(file: &[u8]) -> Reply {
     second::read_file(file)

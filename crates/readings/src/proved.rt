@@ -15,6 +15,8 @@ use strumelka::strumelka_clash;
 use strumelka::strumelka_compact;
 use strumelka::strumelka_completion;
 use strumelka::strumelka_completion_by_rows;
+use strumelka::strumelka_derivation_check;
+use strumelka::strumelka_explain;
 use strumelka::strumelka_mend;
 use strumelka::strumelka_proof;
 use strumelka::strumelka_proof_check;
@@ -142,6 +144,33 @@ pub fn on_proof_check(n: Numbers, words: &[u32], list: &[u32]) -> Reply {
 // The unit.
 pub fn on_unit(n: Numbers, words: &[u32], program: &[u32], marks: &mut [u8]) -> Reply {
     reply_given(strumelka_unit(n.o, n.k, words, n.set, program, n.x, marks))
+}
+
+// The explanation.
+pub fn on_lines(
+    n: Numbers,
+    words: &[u32],
+    scratch: &mut [u16],
+    list: &mut [u16],
+    lines: &mut [u32],
+) -> Reply {
+    reply_given(strumelka_explain(
+        n.o,
+        n.k,
+        words,
+        n.set,
+        n.x,
+        n.y,
+        n.sign,
+        scratch,
+        list,
+        lines,
+    ))
+}
+
+// The check of a derivation.
+pub fn on_derivation_check(n: Numbers, words: &[u32], list: &[u32]) -> Reply {
+    reply_given(strumelka_derivation_check(n.o, n.k, words, n.set, n.x, n.y, n.sign, list))
 }
 
 // The contents of a file.

@@ -37,6 +37,7 @@ fn writes_first(operation: Operation) -> bool {
         Operation::Satisfies => false,
         Operation::ReasonCheck => false,
         Operation::ProofCheck => false,
+        Operation::DerivationCheck => false,
         Operation::Unit => false,
         Operation::File => false,
         Operation::Ask => false,
@@ -55,6 +56,7 @@ fn writes_second(operation: Operation) -> bool {
         Operation::Valuation => true,
         Operation::Reason => true,
         Operation::Proof => true,
+        Operation::Explain => true,
         Operation::Unit => true,
         Operation::Ask => true,
         _ => false,
@@ -67,6 +69,7 @@ fn writes_third(operation: Operation) -> bool {
         Operation::Questions => true,
         Operation::CompletionByRows => true,
         Operation::Mend => true,
+        Operation::Explain => true,
         _ => false,
     }
 }
@@ -288,6 +291,34 @@ pub fn lend_proof(
 pub fn take_proof(first: usize, second: usize, scratch: &[u16], list: &[u32], buffers: &mut [u32]) {
     from_halves(halves_before(scratch, first), buffers, 0);
     copy(numbers_from(list, 0, second), buffers, SECOND_BUFFER);
+}
+
+// A scratch, the list of a reason and the list of its lines, as they are in the three buffers.
+pub fn lend_lines(
+    first: usize,
+    second: usize,
+    third: usize,
+    buffers: &[u32],
+    scratch: &mut [u16],
+    list: &mut [u16],
+    lines: &mut [u32],
+) {
+    lend_scratch(first, second, buffers, scratch, list);
+    copy(numbers_from(buffers, THIRD_BUFFER, third), lines, 0);
+}
+
+// Takes scratch, list and lines back into the three buffers.
+pub fn take_lines(
+    first: usize,
+    second: usize,
+    third: usize,
+    scratch: &[u16],
+    list: &[u16],
+    lines: &[u32],
+    buffers: &mut [u32],
+) {
+    take_scratch(first, second, scratch, list, buffers);
+    copy(numbers_from(lines, 0, third), buffers, THIRD_BUFFER);
 }
 
 // The marks of the unit, as they are in the second buffer; its program stays in the first.

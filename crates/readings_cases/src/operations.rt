@@ -35,6 +35,8 @@ pub enum Operation {
     ReasonCheck,
     Proof,
     ProofCheck,
+    Explain,
+    DerivationCheck,
     Unit,
     File,
     Ask,
@@ -128,13 +130,24 @@ fn model_operation_of(name: &[u8]) -> Operation {
     proof_operation_of(name)
 }
 
-// The operation of a name, among those about proofs, the unit, reasons and files.
+// The operation of a name, among those about proofs, derivations, the unit, reasons and files.
 fn proof_operation_of(name: &[u8]) -> Operation {
     if same_bytes(name, b"proof") {
         return Operation::Proof;
     }
     if same_bytes(name, b"proof_check") {
         return Operation::ProofCheck;
+    }
+    derivation_operation_of(name)
+}
+
+// The operation of a name, among those about derivations, the unit, reasons and files.
+fn derivation_operation_of(name: &[u8]) -> Operation {
+    if same_bytes(name, b"explain") {
+        return Operation::Explain;
+    }
+    if same_bytes(name, b"derivation_check") {
+        return Operation::DerivationCheck;
     }
     if same_bytes(name, b"unit") {
         return Operation::Unit;
@@ -159,7 +172,7 @@ fn file_operation_of(name: &[u8]) -> Operation {
     Operation::Unknown
 }
 
-// The letter of an operation's field, 0 after its last: n a number, b a byte, w words, m marks, c words that are written, a proof or a program, s scratch,
+// The letter of an operation's field, 0 after its last: n a number, b a byte, w words, m marks, c words that are written, a proof, lines or a program, s scratch,
 // r a reason, f a file, p pairs, a their answers, t a valuation's table, d rows of bits.
 fn letter_at(operation: Operation, at: usize) -> u8 {
     match operation {
@@ -180,6 +193,8 @@ fn letter_at(operation: Operation, at: usize) -> u8 {
         Operation::ReasonCheck => byte_at(b"nnwnnnnr", at),
         Operation::Proof => byte_at(b"nnwnnnnsc", at),
         Operation::ProofCheck => byte_at(b"nnwnnnnc", at),
+        Operation::Explain => byte_at(b"nnwnnnnsrc", at),
+        Operation::DerivationCheck => byte_at(b"nnwnnnnc", at),
         Operation::Unit => byte_at(b"nnwncnm", at),
         Operation::File => byte_at(b"f", at),
         Operation::Ask => byte_at(b"fb", at),
@@ -342,7 +357,7 @@ pub fn read_case(operation: Operation, line: &[u8], at: usize, store: &mut [u32]
     }
     let mut case = begun(at, RIGHT);
     let mut i: usize = 0;
-    while i < 9 {
+    while i < 10 {
         let letter = letter_at(operation, i);
         if letter == 0 {
             return ended(line, case);

@@ -15,6 +15,8 @@ mod search; // search.rt: the shortest reason
 mod path; // path.rt: whether a list is a path
 mod proving; // proving.rt: our proof of a statement
 mod sequents; // sequents.rt: whether a list is a proof
+mod derivation; // derivation.rt: whether a list is a derivation
+mod explaining; // explaining.rt: the lines for a reason
 mod machine; // machine.rt: the marker unit
 mod file; // file.rt: the net file
 mod text; // text.rt: the lines of `ask`
@@ -35,6 +37,8 @@ use closure::write_words;
 use compaction::gather;
 use compaction::sort;
 use compaction::test_links;
+use derivation::derives;
+use explaining::write_lines;
 use file::WELL_FORMED;
 use file::count_of;
 use file::first_of;
@@ -58,6 +62,7 @@ use pairs::mark_last;
 use pairs::write_answers;
 use path::shows;
 use places::clear;
+use places::copy;
 use places::entry_at;
 use places::front;
 use places::narrow;
@@ -451,6 +456,53 @@ pub fn proof_check(
     }
     let n = narrow(node_count(o, k));
     verdict(o, n, words, set, statement(x, y, sign), list)
+}
+
+// The shortest reason for the statement (x, y, sign), and the lines that derive the statement by it.
+pub fn explain(
+    o: u32,
+    k: u32,
+    words: &[u32],
+    set: u32,
+    x: u32,
+    y: u32,
+    sign: u32,
+    scratch: &mut [u16],
+    list: &mut [u16],
+    lines: &mut [u32],
+) -> Reply {
+    let found = reason(o, k, words, set, x, y, sign, scratch, list);
+    if found.number != 0 {
+        return found;
+    }
+    let mut room = [0u32; 16384];
+    let needed = write_lines(o, k, words, set, list, &mut room);
+    if lines.len() < needed {
+        return given(8, narrow(needed), 1);
+    }
+    copy(front(&room, needed), lines);
+    given(0, narrow(needed), found.first)
+}
+
+// Whether `list` is a derivation of the statement (x, y, sign).
+pub fn derivation_check(
+    o: u32,
+    k: u32,
+    words: &[u32],
+    set: u32,
+    x: u32,
+    y: u32,
+    sign: u32,
+    list: &[u32],
+) -> Reply {
+    let checked = statement_check(o, k, words, set, x, y, sign);
+    if checked.number != 0 {
+        return checked;
+    }
+    if derives(o, k, words, set, statement(x, y, sign), list) {
+        return given(0, 1, 0);
+    }
+    given(0, 0, 0)
 }
 
 // Runs a program of the marker unit; the first place at fault where there is one.

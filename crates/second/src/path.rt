@@ -8,19 +8,19 @@ use crate::places::entry_at;
 use crate::places::wide;
 
 // A number of the list as a u32.
-fn number(entry: u16) -> u32
+pub fn number(entry: u16) -> u32
     ensures { λ r. ⌜ r < 65536 ⌝ }
 {
     entry as u32
 }
 
 // The plain word of a link between two nodes.
-fn word_of(tail: u16, head: u16, sign: u32) -> u32 {
+pub fn word_of(tail: u16, head: u16, sign: u32) -> u32 {
     number(tail) * 2048 + number(head) * 2 + sign % 2
 }
 
 // Whether `own`, a word of the net, is chosen and says what the plain word says.
-fn says(set: u32, own: u32, word: u32) -> bool {
+pub fn says(set: u32, own: u32, word: u32) -> bool {
     is_chosen(set, own) && plain(own) == word
 }
 

@@ -96,3 +96,12 @@ pub fn front<'a>(words: &'a [u32], count: usize) -> &'a [u32] {
     }
     words
 }
+
+// Copies words in front of others, as far as there is room.
+pub fn copy(from: &[u32], to: &mut [u32]) {
+    let mut at = 0;
+    while at < from.len() {
+        put_word(to, at, from[at], true);
+        at += 1;
+    }
+}

@@ -13,6 +13,8 @@ use Rattle.compact.specs.Table.{compactedBy, compactedReply}
 use Rattle.mend.specs.Table.{mendedBy, mendedReply}
 use Rattle.reason.specs.Table.{reasoned, reasonedReply}
 use Rattle.reason_check.specs.Table.{verdict, verdictReply}
+use Rattle.explain.specs.Table.{explained, explainedReply}
+use Rattle.derivation_check.specs.Table.{linesVerdict}
 use Rattle.proof.specs.Table.{proved, provedReply}
 use Rattle.proof_check.specs.Table.{judged, judgedReply}
 use Rattle.unit.specs.Table.{simulated, simulatedReply}
@@ -57,6 +59,10 @@ module _ (o k : ℕ) (ws : List ℕ) (set : ℕ) (r q : Reply) where
   -- `strumelka_reason_check`.
   pub given-reason-check-unique : (x y sign : ℕ) (list : List ℕ) → r ≡ verdictReply (verdict o k ws set x y sign list) → q ≡ verdictReply (verdict o k ws set x y sign list) → r ≡ q
   given-reason-check-unique x y sign list = gives-one r q
+
+  -- `strumelka_derivation_check`.
+  pub given-derivation-check-unique : (x y sign : ℕ) (list : List ℕ) → r ≡ verdictReply (linesVerdict o k ws set x y sign list) → q ≡ verdictReply (linesVerdict o k ws set x y sign list) → r ≡ q
+  given-derivation-check-unique x y sign list = gives-one r q
 
   -- `strumelka_proof_check`.
   pub given-proof-check-unique : (x y sign : ℕ) (list : List ℕ) → r ≡ judgedReply (judged o k ws set x y sign list) → q ≡ judgedReply (judged o k ws set x y sign list) → r ≡ q
@@ -106,6 +112,15 @@ module _ (o k : ℕ) (ws : List ℕ) (set : ℕ) (r q : Reply) where
       → (q ≡ reasonedReply (reasoned o k ws set x y sign scratch list .answer)) × (l ≡ reasoned o k ws set x y sign scratch list .scratch) × (d ≡ reasoned o k ws set x y sign scratch list .list)
       → (r ≡ q) × (m ≡ l) × (c ≡ d)
   given-reason-unique x y sign scratch list m l c d = leaves-two r q m l c d
+
+  -- `strumelka_explain`: m and l the scratches, c and d the reasons, a and b the lists of lines left.
+  pub given-explain-unique : (x y sign : ℕ) (scratch reason lines m l c d a b : List ℕ)
+      → (r ≡ explainedReply (explained o k ws set x y sign scratch reason lines .answer)) × (m ≡ explained o k ws set x y sign scratch reason lines .scratch)
+      × (c ≡ explained o k ws set x y sign scratch reason lines .list) × (a ≡ explained o k ws set x y sign scratch reason lines .lines)
+      → (q ≡ explainedReply (explained o k ws set x y sign scratch reason lines .answer)) × (l ≡ explained o k ws set x y sign scratch reason lines .scratch)
+      × (d ≡ explained o k ws set x y sign scratch reason lines .list) × (b ≡ explained o k ws set x y sign scratch reason lines .lines)
+      → (r ≡ q) × (m ≡ l) × (c ≡ d) × (a ≡ b)
+  given-explain-unique x y sign scratch reason lines m l c d a b = leaves-three r q m l c d a b
 
   -- `strumelka_proof`: m and l the scratches, c and d the lists left.
   pub given-proof-unique : (x y sign : ℕ) (scratch list m l c d : List ℕ)

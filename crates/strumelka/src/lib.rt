@@ -11,6 +11,8 @@ ghost use Rattle.compact.specs.Table.{compactedBy, compactedReply};
 ghost use Rattle.mend.specs.Table.{mendedBy, mendedReply};
 ghost use Rattle.reason.specs.Table.{reasoned, reasonedReply};
 ghost use Rattle.reason_check.specs.Table.{verdict, verdictReply};
+ghost use Rattle.explain.specs.Table.{explained, explainedReply};
+ghost use Rattle.derivation_check.specs.Table.{linesVerdict};
 ghost use Rattle.proof.specs.Table.{proved, provedReply};
 ghost use Rattle.proof_check.specs.Table.{judged, judgedReply};
 ghost use Rattle.unit.specs.Table.{simulated, simulatedReply};
@@ -22,12 +24,15 @@ use check_word::check_word;
 use clash::find_clash;
 use compact::compact_list;
 use completion::complete_net;
+use derivation_check::check_derivation;
+use explain::explain;
 use library_answer::answered_given;
 use library_answer::asked_all_given;
 use library_answer::asked_given;
 use library_answer::clashed_given;
 use library_answer::compacted_given;
 use library_answer::completed_given;
+use library_answer::explained_given;
 use library_answer::filled_given;
 use library_answer::judged_given;
 use library_answer::mended_given;
@@ -218,6 +223,45 @@ pub extern "C" fn strumelka_reason_check(
     ensures { λ r. ⌜ r ≡ verdictReply (verdict o k (now (words .entry)) set x y sign (now (list .entry))) ⌝ }
 {
     verdict_given(check_reason(o, k, words, set, x, y, sign, list))
+}
+
+// The shortest reason for x → y (`sign` 0) or x ↛ y (`sign` 1) and its derivation, with room for distances, for the reason and for the lines.
+#[no_mangle]
+pub extern "C" fn strumelka_explain(
+    o: u32,
+    k: u32,
+    words: &[u32],
+    set: u32,
+    x: u32,
+    y: u32,
+    sign: u32,
+    scratch: &mut [u16],
+    reason: &mut [u16],
+    lines: &mut [u32],
+) -> Reply
+    ensures { λ r. ⌜ (r ≡ explainedReply (explained o k (now (words .entry)) set x y sign (now (scratch .entry)) (now (reason .entry)) (now (lines .entry)) .answer))
+        × (now (scratch .exit) ≡ explained o k (now (words .entry)) set x y sign (now (scratch .entry)) (now (reason .entry)) (now (lines .entry)) .scratch)
+        × (now (reason .exit) ≡ explained o k (now (words .entry)) set x y sign (now (scratch .entry)) (now (reason .entry)) (now (lines .entry)) .list)
+        × (now (lines .exit) ≡ explained o k (now (words .entry)) set x y sign (now (scratch .entry)) (now (reason .entry)) (now (lines .entry)) .lines) ⌝ }
+{
+    explained_given(explain(o, k, words, set, x, y, sign, scratch, reason, lines))
+}
+
+// The check of a derivation of x → y (`sign` 0) or x ↛ y (`sign` 1).
+#[no_mangle]
+pub extern "C" fn strumelka_derivation_check(
+    o: u32,
+    k: u32,
+    words: &[u32],
+    set: u32,
+    x: u32,
+    y: u32,
+    sign: u32,
+    list: &[u32],
+) -> Reply
+    ensures { λ r. ⌜ r ≡ verdictReply (linesVerdict o k (now (words .entry)) set x y sign (now (list .entry))) ⌝ }
+{
+    verdict_given(check_derivation(o, k, words, set, x, y, sign, list))
 }
 
 // The proof of x → y (`sign` 0) or x ↛ y (`sign` 1), with room for distances and for the list.

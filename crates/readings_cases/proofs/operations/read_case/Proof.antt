@@ -1,4 +1,4 @@
--- The loop of `read_case` ends, since `9 - i` falls; what is lent keeps its length.
+-- The loop of `read_case` ends, since `10 - i` falls; what is lent keeps its length.
 use borrow.Author.Needs.{needs}
 use lib.ListN.{length}
 use mathlib.Core.Path.{_≡_}
@@ -10,7 +10,7 @@ abbrev Inv-loop : tie.InvT-loop
 Inv-loop operation line at store₀ case₀ i₀ store case i = length store ≡ length store₀
 
 abbrev μ-loop : tie.MeasureT-loop
-μ-loop operation line at store₀ case₀ i₀ store case i = 9 - i
+μ-loop operation line at store₀ case₀ i₀ store case i = 10 - i
 
 pub read-case-spec : {M : Type 1} → statement M
 read-case-spec =

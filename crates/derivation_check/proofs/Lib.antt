@@ -1,0 +1,4 @@
+pub mod Loop
+pub mod Verdicts
+pub mod Exactly
+pub mod Readings

@@ -1,0 +1,10 @@
+pub mod Sound
+pub mod Growing
+pub mod Derived
+pub mod Sizes
+pub mod Checking
+pub mod Flatness
+pub mod ReasonLines
+pub mod Readings
+pub mod OneWay
+pub mod Known

@@ -1,0 +1,4 @@
+pub mod Straight
+pub mod Shape
+pub mod Table
+pub mod Found
