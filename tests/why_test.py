@@ -122,11 +122,13 @@ def follows(net, line, above):
     if line.rule == "3.3":
         return sign == IS_NOT and premises == [(head, IS_NOT, tail)] and net.is_kind(head) and net.is_kind(tail)
     middle = premises[0][2]
+    if not (net.is_kind(middle) and net.is_kind(head)):
+        return False
     if line.rule == "3.2":
         return sign == IS and premises == [(tail, IS, middle), (middle, IS, head)]
     if line.rule == "3.4":
         return sign == IS_NOT and premises == [(tail, IS, middle), (middle, IS_NOT, head)]
-    return sign == IS_NOT and premises == [(head, IS, middle), (tail, IS_NOT, middle)] and not net.is_kind(tail) and net.is_kind(head)
+    return sign == IS_NOT and premises == [(head, IS, middle), (tail, IS_NOT, middle)] and not net.is_kind(tail)
 
 
 def check_derivation(net, texts, statement):
