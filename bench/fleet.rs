@@ -67,7 +67,7 @@ fn figures(file: &[u8], rows: &mut Rows, words: &mut Vec<u32>) -> Result<Figures
         return Err(1);
     }
     let set = bodies.get(3).map(|set| number_at(set, 0));
-    if set.is_some_and(|set| set > 15) {
+    if matches!(set, Some(set) if set > 15) {
         return Err(15);
     }
     let top = if set.is_some() { 3 } else { 0 };

@@ -16,15 +16,12 @@ mod proved;
 #[path = "../tests/library/random.rs"]
 mod random;
 mod rows;
+mod shapes;
 
 use engine::{Answer, Engine};
-use nets::{
-    head_of, plain as plain_of, random_net, tail_of, word, Net, ALL_ORIGINS, ORIGIN, ORIGINS,
-    WORD_LIMIT,
-};
-use random::Random;
+use nets::{plain as plain_of, Net, ALL_ORIGINS};
+use shapes::{chain_shape, mended_shape, random_shape, repeated_shape, three_shapes, Shape};
 
-const SEED: u64 = 1;
 /// One turn of an engine lasts at least this many seconds, by repeating the call.
 const TURN: f64 = 0.002;
 /// Turns go on for this many seconds, but at least `FEWEST_TURNS` of them where these do not take too long.
@@ -63,15 +60,6 @@ const OPERATIONS: [(Operation, &str); 7] = [
 /// As many questions as a screenful has.
 const SCREENFUL: usize = 64;
 
-/// A net and the statement asked of it.
-struct Shape {
-    name: String,
-    net: Net,
-    x: u32,
-    y: u32,
-    sign: u32,
-}
-
 /// The buffers of one engine.
 #[derive(Clone, PartialEq)]
 struct Room {
@@ -100,15 +88,8 @@ fn main() {
     let ratios = asked.iter().any(|word| word == "ratios");
     let tables: Vec<&String> = asked.iter().filter(|&word| word != "ratios").collect();
     let wanted = |name: &str| tables.is_empty() || tables.iter().any(|table| *table == name);
-    let three = || {
-        [
-            random_shape(100, 800, 8_000),
-            chain_shape(900),
-            random_shape(24, 1000, 200_000),
-        ]
-    };
     if wanted("operations") {
-        print_operations(ratios, &three());
+        print_operations(ratios, &three_shapes());
     }
     if wanted("screenful") {
         println!("\n64 questions about one node, in one call and one by one:\n");
@@ -116,7 +97,7 @@ fn main() {
     }
     if wanted("rows") {
         println!("\nCompletion by rows of bits, which the call clears itself; `by size` is the plain program compiled for each size of a row:\n");
-        print_rows(ratios, &three());
+        print_rows(ratios, &three_shapes());
         println!("\nThe same against completion by markers:\n");
         print_both_completions(ratios, &random_shape(100, 800, 8_000));
     }
@@ -141,89 +122,6 @@ fn main() {
         println!("\nHow it grows with depth (a chain, scanned from its first node):\n");
         print_growth(ratios, &[50, 100, 200, 400, 800].map(chain_shape));
     }
-}
-
-fn random_shape(o: usize, k: usize, size: usize) -> Shape {
-    let net = of_all_origins(random_net(
-        &mut Random::new(SEED, size as u64),
-        o,
-        k,
-        size,
-        25,
-    ));
-    let (x, y) = (tail_of(net.words[0]) as u32, head_of(net.words[1]) as u32);
-    Shape {
-        name: format!("{} nodes, {} random links", o + k, size),
-        net,
-        x,
-        y,
-        sign: 1,
-    }
-}
-
-/// Random links, repeated until there are as many words as are allowed.
-fn repeated_shape(o: usize, k: usize, size: usize) -> Shape {
-    let mut shape = random_shape(o, k, size);
-    let words = &mut shape.net.words;
-    let mut random = Random::new(SEED, WORD_LIMIT as u64);
-    while words.len() < WORD_LIMIT {
-        words.push(words[random.below(size)]);
-    }
-    shape.name = format!("{}, repeated to {} words", shape.name, WORD_LIMIT);
-    shape
-}
-
-/// Kinds in two halves, by even and odd numbers: "is" goes upward inside a half, "is not" from one half to the other. The last
-/// links, which somebody has added, say "is" across, and most of them clash.
-fn mended_shape(o: usize, k: usize, size: usize, added: usize) -> Shape {
-    let mut random = Random::new(SEED, added as u64);
-    let nodes = o + k;
-    let mut words = Vec::with_capacity(size);
-    while words.len() < size {
-        let (tail, head) = (random.below(nodes), o + random.below(k));
-        let across = (tail + head) % 2 == 1;
-        let is_added = words.len() >= size - added;
-        if tail < head && across == is_added {
-            words.push(word(tail, head, 0));
-        } else if across && !is_added && random.chance(30) {
-            words.push(word(tail, head, 1));
-        }
-    }
-    Shape {
-        name: format!("{} nodes, {} links, the last {} across", nodes, size, added),
-        x: tail_of(words[0]) as u32,
-        y: head_of(words[0]) as u32,
-        net: of_all_origins(Net {
-            o: o as u32,
-            k: k as u32,
-            words,
-        }),
-        sign: 0,
-    }
-}
-
-fn chain_shape(nodes: usize) -> Shape {
-    let words = (1..nodes).map(|v| word(v - 1, v, 0)).collect();
-    let net = of_all_origins(Net {
-        o: 1,
-        k: nodes as u32 - 1,
-        words,
-    });
-    Shape {
-        name: format!("a chain of {} nodes", nodes),
-        net,
-        x: 0,
-        y: nodes as u32 - 1,
-        sign: 0,
-    }
-}
-
-/// The net with its plain words given the origins by turns.
-fn of_all_origins(mut net: Net) -> Net {
-    for (at, word) in net.words.iter_mut().enumerate() {
-        *word += (at % ORIGINS) as u32 * ORIGIN;
-    }
-    net
 }
 
 fn print_operations(ratios: bool, shapes: &[Shape]) {

@@ -15,8 +15,9 @@ pub trait Plan {
     fn run(words: &[u32], set: u32, budget: u32, marks: &mut [u8]) -> (bool, u32);
 }
 
-/// A command that can set nothing is passed over, new marks wait in a free bit of the marks, and words without the sign are passed over a block at a
-/// time. The marks are held in an array of all nodes that there can be, so that no index is tested.
+/// One pass over the words for the three commands along "is" and one for the two along "is not". The second is run in the first round and where a U has come
+/// in the round, and only where a word says "is not". Where words of a sign are rare, blocks without one are passed over. For the passes the marks are
+/// written in lanes: see `code_is`. They are held in an array of all nodes that there can be, so that no index is tested.
 pub struct Best;
 
 /// All five commands in each round, and a copy of the marks for each command.
@@ -25,11 +26,23 @@ pub struct Base;
 /// The marks of all nodes that there can be.
 type Marks = [u8; NODE_LIMIT];
 
-/// A new mark while its command runs.
-const WAITING: u8 = 8;
+/// The signs of the two passes.
+const IS: u32 = 0;
+const ISNT: u32 = 1;
+
+/// All three lanes of a pass, those whose mark is put at the tail of a link, and the one whose mark is put at its head.
+const LANES: u8 = 7;
+const AT_TAIL: u8 = 3;
+const AT_HEAD: u8 = 4;
+
+/// U has come, in the result of `fold_is`.
+const U_CAME: u8 = 64;
 
 /// How many words are looked at together.
 const BLOCK: usize = 8;
+
+/// How many words there are to each block that is looked at when it is asked whether words of a sign are rare.
+const SPREAD: usize = 512;
 
 impl Plan for Best {
     const COUNTS: bool = false;
@@ -37,77 +50,32 @@ impl Plan for Best {
     fn run(words: &[u32], set: u32, budget: u32, lent: &mut [u8]) -> (bool, u32) {
         let nodes = lent.len();
         let mut held = [0; NODE_LIMIT];
-        held[..nodes].copy_from_slice(lent);
-        let marks = &mut held;
-        let (mut t, mut u, mut f, mut first) = (true, true, true, true);
-        let mut count = 0;
-        while count < budget && (t | u | f) {
+        let isnts = has_isnt(words);
+        let (few_is, few_isnt) = (is_rare::<IS>(words), is_rare::<ISNT>(words));
+        let (is_table, isnt_table) = (table_of(IS, set), table_of(ISNT, set));
+        code_is(lent, &mut held[..nodes]);
+        let (mut done, mut count) = (false, 0);
+        while count < budget && !done {
+            run_pass::<IS>(few_is, &is_table, words, &mut held);
+            let mut came = fold_is(&mut held[..nodes]);
+            if isnts && (count == 0 || came & U_CAME != 0) {
+                code_isnt(&mut held[..nodes]);
+                run_pass::<ISNT>(few_isnt, &isnt_table, words, &mut held);
+                came |= fold_isnt(&mut held[..nodes]);
+            }
+            done = came == 0;
             count += 1;
-            t = t && run::<0, true, T, T>(words, set, nodes, marks);
-            u = u && run::<0, false, U, U>(words, set, nodes, marks);
-            f = f && run::<0, true, F, F>(words, set, nodes, marks);
-            if first | u {
-                f |= run::<1, false, U, F>(words, set, nodes, marks);
-                f |= run::<1, true, U, F>(words, set, nodes, marks);
-            }
-            first = false;
         }
-        lent.copy_from_slice(&held[..nodes]);
-        (count > 0 && !(t | u | f), count)
+        plain_marks(&held[..nodes], lent);
+        (done, count)
     }
 }
 
-/// One command: each chosen link of the sign with TEST at the tail, or with UP at the head, puts PUT at its other end. Whether a mark was set.
-#[inline(never)]
-fn run<const SIGN: u32, const UP: bool, const TEST: u8, const PUT: u8>(
-    words: &[u32],
-    set: u32,
-    nodes: usize,
-    marks: &mut Marks,
-) -> bool {
-    let tests = tests_of(SIGN, set, TEST);
-    let mut changed = false;
-    let mut blocks = words.chunks_exact(BLOCK);
-    for block in &mut blocks {
-        if has_sign::<SIGN>(block) {
-            for word in block {
-                if follow::<UP, PUT>(&tests, read_again(word), marks) {
-                    changed = true;
-                }
-            }
-        }
-    }
-    for &word in blocks.remainder() {
-        if follow::<UP, PUT>(&tests, word, marks) {
-            changed = true;
-        }
-    }
-    if changed {
-        settle::<PUT>(&mut marks[..nodes]);
-    }
-    changed
-}
-
-/// Whether a word of the block has the sign, by the lowest bits of all of them at once.
-#[inline(always)]
-fn has_sign<const SIGN: u32>(block: &[u32]) -> bool {
-    match SIGN {
-        0 => block.iter().fold(!0, |all, word| all & word) % 2 == 0,
-        _ => block.iter().fold(0, |any, word| any | word) % 2 != 0,
-    }
-}
-
-/// A word, read from its place once more: so the compiler tests a block four words at a time, and not one by one those that it holds to follow them.
-#[inline(always)]
-fn read_again(word: &u32) -> u32 {
-    unsafe { std::ptr::read_volatile(word) }
-}
-
-/// The marker that a word is tested for, by its origin and sign: none where it has the other sign or is not chosen.
-fn tests_of(sign: u32, set: u32, marker: u8) -> [u8; 2 * ORIGINS] {
+/// The lanes that a word may open, by its origin and sign: none where it has the other sign or is not chosen.
+fn table_of(sign: u32, set: u32) -> [u8; 2 * ORIGINS] {
     std::array::from_fn(|class| {
         let is_followed = class as u32 / 4 == sign && set >> (class % 4) & 1 != 0;
-        is_followed as u8 * marker
+        is_followed as u8 * LANES
     })
 }
 
@@ -117,30 +85,131 @@ fn class_of(word: u32) -> usize {
     (word.wrapping_mul(0x8000_0100) >> 29) as usize
 }
 
-/// One word: a mark that is new waits at its far end. Whether there is one.
-#[inline(always)]
-fn follow<const UP: bool, const PUT: u8>(
-    tests: &[u8; 2 * ORIGINS],
-    word: u32,
+/// A pass over the chosen links of the sign. Where `few` words have it, a block is looked at before its words are followed.
+#[inline(never)]
+fn run_pass<const SIGN: u32>(
+    few: bool,
+    table: &[u8; 2 * ORIGINS],
+    words: &[u32],
     marks: &mut Marks,
-) -> bool {
-    let (near, far) = ends::<UP>(word);
-    let class = class_of(word);
-    let byte = marks[far];
-    let fires = marks[near] & tests[class];
-    let had = byte & (PUT | WAITING);
-    // The first is 0 or at least 8, the second at most 4: one branch for both tests.
-    if had * 8 < fires {
-        marks[far] = byte | WAITING;
-        return true;
+) {
+    let mut blocks = words.chunks_exact(BLOCK);
+    if few {
+        for block in &mut blocks {
+            if has_sign::<SIGN>(block) {
+                follow_block(table, block, marks);
+            }
+        }
+    } else {
+        for block in &mut blocks {
+            follow_block(table, block, marks);
+        }
     }
-    false
+    for &word in blocks.remainder() {
+        follow(table, word, marks);
+    }
 }
 
-/// The marks that wait become the command's.
-fn settle<const PUT: u8>(marks: &mut [u8]) {
-    for byte in marks {
-        *byte = *byte % WAITING | *byte / WAITING * PUT;
+/// The words of a block in turn.
+#[inline(always)]
+fn follow_block(table: &[u8; 2 * ORIGINS], block: &[u32], marks: &mut Marks) {
+    for &word in block {
+        follow(table, word, marks);
+    }
+}
+
+/// Whether a word of the block has the sign, by the lowest bits of all of them at once.
+#[inline(always)]
+fn has_sign<const SIGN: u32>(block: &[u32]) -> bool {
+    match SIGN {
+        IS => block.iter().fold(!0, |all, word| all & word) % 2 == 0,
+        _ => block.iter().fold(0, |any, word| any | word) % 2 != 0,
+    }
+}
+
+/// Whether a word says "is not".
+fn has_isnt(words: &[u32]) -> bool {
+    let mut blocks = words.chunks_exact(BLOCK);
+    blocks.any(has_sign::<ISNT>) || blocks.remainder().iter().any(|word| word % 2 == ISNT)
+}
+
+/// Whether more than one block in four has no word of the sign, of at most 64 blocks spread over all words.
+fn is_rare<const SIGN: u32>(words: &[u32]) -> bool {
+    let (mut looked, mut without) = (0, 0);
+    let blocks = words.chunks_exact(BLOCK).step_by(words.len() / SPREAD + 1);
+    for block in blocks {
+        looked += 1;
+        without += !has_sign::<SIGN>(block) as usize;
+    }
+    looked / 4 < without
+}
+
+/// One word. A lane is open where its bit stands in the upper half at the tail and in the lower half at the head, if the word is chosen and has the sign; its
+/// mark is put by striking one of the two out. What tests for a mark stays as it was when the pass began.
+#[inline(always)]
+fn follow(table: &[u8; 2 * ORIGINS], word: u32, marks: &mut Marks) {
+    let (tail, head) = (tail_of(word), head_of(word));
+    let open = marks[tail] >> 4 & marks[head] & table[class_of(word)];
+    if open != 0 {
+        marks[tail] ^= (open & AT_TAIL) << 4;
+        marks[head] ^= open & AT_HEAD;
+    }
+}
+
+/// Marks written for the pass over "is": lane 0 hands T down, lane 1 hands F down, lane 2 hands U up. From bit 0 on: T, F, no U; from bit 4 on: no T, no F, U.
+fn code_is(marks: &[u8], codes: &mut [u8]) {
+    for (code, byte) in codes.iter_mut().zip(marks) {
+        let low = byte ^ U;
+        *code = low | (low ^ LANES) << 4;
+    }
+}
+
+/// The marks that the pass over "is" put are folded in: T and F are missing where bits 4 and 5 say so, U where bit 2 does. The bits in which a byte changed:
+/// none if no mark was put, and bit 6 if a U was.
+#[inline(never)]
+fn fold_is(codes: &mut [u8]) -> u8 {
+    let mut came = 0;
+    for code in codes {
+        let byte = *code;
+        *code = byte & 0x34 | (byte >> 4 & 0x03 | (byte & 0x04) << 4) ^ 0x43;
+        came |= *code ^ byte;
+    }
+    came
+}
+
+/// Bytes of the pass over "is" written for that over "is not": where U stands at a head, lane 0 puts F at the tail; where it stands at a tail, lane 2 puts F at
+/// the head. From bit 0 on: U, F as it was, no F, T; bit 4: no F; bit 6: U.
+#[inline(never)]
+fn code_isnt(codes: &mut [u8]) {
+    for code in codes {
+        let byte = *code;
+        *code = byte & 0x42
+            | byte >> 6 & 0x01
+            | byte >> 3 & 0x04
+            | byte >> 1 & 0x10
+            | (byte & 0x01) << 3;
+    }
+}
+
+/// The marks that the pass over "is not" put are folded in, and the bytes written for the pass over "is": F is missing where bits 2 and 4 both say so. The bit
+/// of F where it has come, or nothing.
+#[inline(never)]
+fn fold_isnt(codes: &mut [u8]) -> u8 {
+    let mut came = 0;
+    for code in codes {
+        let byte = *code;
+        let no_f = byte >> 2 & byte >> 4 & 0x01;
+        let low = byte >> 3 & 0x01 | (no_f ^ 0x01) << 1 | (byte & 0x01 ^ 0x01) << 2;
+        *code = low | (low ^ LANES) << 4;
+        came |= *code & !byte & F;
+    }
+    came
+}
+
+/// The marks of bytes of the pass over "is".
+fn plain_marks(codes: &[u8], marks: &mut [u8]) {
+    for (byte, code) in marks.iter_mut().zip(codes) {
+        *byte = code & (T | F) | code >> 4 & U;
     }
 }
 

@@ -1,6 +1,6 @@
 //! The plain engine: the timed operations of the request in ordinary Rust. Its algorithms are the proved engine's, so that
-//! the two can be timed against each other: a scan is the marker machine by a plan of `marks.rs`, a command and a level of
-//! distances are one pass over the words each, a link of an origin that is not chosen is left out where it is read, and nothing
+//! the two can be timed against each other: a scan is the marker machine by a plan of `marks.rs`, the commands along one sign are one
+//! pass over the words, and so is a level of distances, a link of an origin that is not chosen is left out where it is read, and nothing
 //! is allocated. The search of a reason has a branch for each test of a move, where the proved one has a single comparison.
 
 use crate::engine::{Answer, Engine};
@@ -10,6 +10,7 @@ use crate::nets::{
     ORIGINS, WORD_LIMIT,
 };
 use crate::rows;
+use std::marker::PhantomData;
 
 const NODE_LIMIT: usize = 1024;
 const NO_WAY: u16 = 65_535;
@@ -24,8 +25,10 @@ const CAUSE_TAIL: u32 = 1;
 const CAUSE_HEAD: u32 = 2;
 
 /// The functions of this file, with scans by a plan.
-const fn engine<P: Plan>() -> Engine {
-    Engine {
+struct By<P>(PhantomData<P>);
+
+impl<P: Plan> By<P> {
+    const ENGINE: Engine = Engine {
         check_net,
         scan: scan::<P>,
         question: question::<P>,
@@ -37,12 +40,12 @@ const fn engine<P: Plan>() -> Engine {
         mend: mend::<P>,
         reason,
         reason_check,
-    }
+    };
 }
 
 /// The best plan, and that of the engine's first version.
-pub const ENGINE: Engine = engine::<Best>();
-pub const BASE: Engine = engine::<Base>();
+pub const ENGINE: Engine = By::<Best>::ENGINE;
+pub const BASE: Engine = By::<Base>::ENGINE;
 
 /// The same with rows by code for each size of a row.
 pub const BY_SIZE: Engine = Engine {
@@ -133,9 +136,12 @@ fn questions<P: Plan>(
         let marks = net.places(1, marks)?;
         let mut scanned = None;
         for (pair, byte) in pairs.chunks(2).zip(answers) {
-            let (Ok(x), Ok(y)) = (net.node(pair[0] as u32), net.kind(pair[1] as u32)) else {
-                *byte = BAD_PAIR;
-                continue;
+            let (x, y) = match (net.node(pair[0] as u32), net.kind(pair[1] as u32)) {
+                (Ok(x), Ok(y)) => (x, y),
+                _ => {
+                    *byte = BAD_PAIR;
+                    continue;
+                }
             };
             if scanned != Some(x) {
                 net.scan_whole::<P>(x, marks);
@@ -235,8 +241,9 @@ fn compact<P: Plan>(o: u32, k: u32, list: &mut [u32], marks: &mut [u8]) -> Answe
 
 fn compact_plain<P: Plan>(o: u32, k: u32, list: &mut [u32], marks: &mut [u8]) -> Outcome {
     let Net { objects, nodes, .. } = Net::checked(o, k, list, PLAIN, 1)?;
-    let Some(marks) = marks.get_mut(..nodes) else {
-        return refused(5);
+    let marks = match marks.get_mut(..nodes) {
+        Some(marks) => marks,
+        None => return refused(5),
     };
     list.sort_unstable();
     let mut size = remove_repeats(list);
@@ -281,8 +288,9 @@ fn mend_plain<P: Plan>(
     marks: &mut [u8],
 ) -> Outcome {
     let Net { objects, nodes, .. } = Net::checked(o, k, words, PLAIN, 1)?;
-    let Some(marks) = marks.get_mut(..nodes) else {
-        return refused(5);
+    let marks = match marks.get_mut(..nodes) {
+        Some(marks) => marks,
+        None => return refused(5),
     };
     let (mut keeps, mut drops) = (0, 0);
     let enough = kept.len() >= words.len() && dropped.len() / 3 >= words.len();
@@ -576,8 +584,9 @@ impl<'a> Net<'a> {
 
     /// Whether a list is a path from `x` to `y` of the sign asked, with nothing after it.
     fn is_path(&self, x: usize, y: usize, sign: u32, list: &[u16]) -> bool {
-        let [first, second, path @ ..] = list else {
-            return false;
+        let (first, second, path) = match list {
+            [first, second, path @ ..] => (first, second, path),
+            _ => return false,
         };
         let (first, second) = (*first as usize, *second as usize);
         first > 0

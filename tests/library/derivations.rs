@@ -58,8 +58,9 @@ fn derivation_of(net: &Net, set: u32, operations: &[Operation], case: &Case) -> 
 fn lengthen(random: &mut Random, net: &Net, set: u32, lines: &mut Vec<Line>) {
     let at = random.below(lines.len() + 1);
     let drawn = (0..8).find_map(|_| draw_line(random, net, set, &lines[..at]));
-    let Some(drawn) = drawn else {
-        return;
+    let drawn = match drawn {
+        Some(drawn) => drawn,
+        None => return,
     };
     for line in &mut lines[at..] {
         let places = match line[1] {

@@ -1,122 +1,135 @@
--- A round's commands one after another, and which of them may be passed over from then on.
+-- A round in two passes: whether it set a mark, and where the second may be passed over.
 use Prim.{tt}
-use Prim.Native.Nat.{ℕ, _≤_}
+use Prim.Native.Nat.{ℕ, _/_, _%_, _≤_, _<_}
 use mathlib.Core.Path.{_≡_, refl, sym, ap, _∙_}
-use mathlib.Core.Bool.{Bool, true, false, cond, _||_}
-use mathlib.Core.List.{List, [], _∷_}
-use borrow.Author.Tests.{eqb-false}
+use mathlib.Core.Bool.{Bool, true, false, not, _&&_, _||_}
+use mathlib.Core.List.{List}
+use native.Mathlib.Omega.{arith}
+use borrow.Author.Tests.{eqb-true, eqb-false, eq-eqb, ne-eqb}
 use lib.Dec.{eqb}
-use lib.ListN.{length}
-use Rattle.theory_laws.proofs.Booleans.{contradiction, or-assoc, or-false, or-none-left, or-none-right}
-use Rattle.theory.specs.Marks.{T, F, U, round, commands, toHead, toTail}
+use lib.ListN.{length, getD}
+use Rattle.theory_laws.specs.Deciding.{Decides}
+use Rattle.theory_laws.proofs.Booleans.{contradiction}
+use Rattle.theory.specs.Marks.{U, has, commands, round}
 use Rattle.theory.specs.Inside.{Inside}
-use Rattle.theory.specs.Growth.{Set, kept}
 use Rattle.theory.specs.Origins.{chosen, InsideFrom}
+use Rattle.theory.specs.Growth.{size, Set, kept, more}
 use Rattle.theory.specs.declared.Command.{Command}
-use Rattle.theory.proofs.machine.Growth.{set-then}
+use Rattle.theory.proofs.machine.Growth.{Puts, round-step, set-then}
 use Rattle.theory.proofs.origins.Statements.{chosen-inside}
 use Rattle.scan_start.specs.Starts.{Low}
-use Rattle.scan_command.proofs.Folding.{CommandRan, set-none}
-use Rattle.scan_round.specs.Quiet.{Quiet, Passed, flags, anyDue}
-use Rattle.scan_round.specs.declared.Due.{Due}
-use Rattle.scan_round.proofs.Quiet.{after-room, quiet-other, quiet-ran}
+use Rattle.scan_lanes.specs.Codes.{onNodes, isCode, anyNew, marksOf, Written}
+use Rattle.scan_lanes.specs.Passes.{isCommands, isntCommands}
+use Rattle.scan_block.specs.Signs.{NoIsnt}
+use Rattle.scan_round.specs.Quiet.{Quiet}
+use Rattle.scan_round.proofs.Quiet.{round-room, isnt-ran, isnt-kept, no-isnt}
+use Rattle.scan_round.proofs.Written.{marks-low, marks-room, written-long, written-back, written-so}
 
--- The flags of commands after a command d that answered f: one that tests for what d puts is due too where d set a mark.
-abbrev told : Bool → Command → List Bool → List Command → List Bool
-told f d [] cs = []
-told f d (p ∷ ps) [] = p ∷ ps
-told f d (p ∷ ps) (c ∷ cs) = cond (eqb (c .test) (d .put)) (p || f) p ∷ told f d ps cs
+not-not : (p : Bool) → not (not p) ≡ p
+not-not true = refl
+not-not false = refl
 
--- The flag of d itself: it is due again where it set a mark of the marker that it tests for.
-abbrev again : Bool → Command → Bool
-again f d = cond (eqb (d .test) (d .put)) f false
+-- What decides whether marks are as they were is, turned round, their flag.
+set-of : {f : Bool} {m m′ : List ℕ} → Set f m m′ → (q : Bool) → Decides q (m′ ≡ m) → Set (not q) m m′
+set-of kept true d = kept
+set-of kept false d = contradiction (d .1 refl)
+set-of (more l) true d = let e = ap size (d .0 refl) in absurd (omega arith)
+set-of (more l) false d = more l
 
--- One command d has run, from the marks m to the marks a.
-module _ (n : ℕ) (ws : List ℕ) (inside : Inside n ws) {m : List ℕ} (room : n ≤ length m) (d : Command) {f : Bool} {a : List ℕ} (ran : CommandRan d n ws f m a) where
-  ran-room : n ≤ length a
-  ran-room = rw (ran .0) (after-room n ws inside m room d)
-
-  other-quiet : (c : Command) (p q : Bool) → eqb (c .test) (d .put) ≡ q → (p ≡ false → Quiet c ws m) → cond q (p || f) p ≡ false → Quiet c ws a
-  other-quiet c p true e h k = rw (set-none (ran .1 .0) (or-none-right p f k)) (h (or-none-left p f k))
-  other-quiet c p false e h k = rw (ran .0) (quiet-other n ws inside m room c d (eqb-false (c .test) (d .put) e) (h k))
-
-  others-quiet : (ps : List Bool) (cs : List Command) → Passed ps cs ws m → Passed (told f d ps cs) cs ws a
-  others-quiet [] cs h = tt
-  others-quiet (p ∷ ps) [] h = tt
-  others-quiet (p ∷ ps) (c ∷ cs) h = (other-quiet c p (eqb (c .test) (d .put)) refl (h .0), others-quiet ps cs (h .1))
-
-  again-quiet : (q : Bool) → eqb (d .test) (d .put) ≡ q → cond q f false ≡ false → Quiet d ws a
-  again-quiet true e k =
-      let s : a ≡ m = set-none (ran .1 .0) k in
-      rw s (sym (ran .0) ∙ s)
-  again-quiet false e k = rw (ran .0) (quiet-ran n ws inside m room d (eqb-false (d .test) (d .put) e))
-
--- A round from the marks m that has come to the marks a: the commands still to come with their flags, and those that ran, the last first, with theirs.
-pub record Turn (n : ℕ) (ws m : List ℕ) (f : Bool) (a : List ℕ) (ps : List Bool) (rest : List Command) (qs : List Bool) (past : List Command) : Type 0 where
-  pub left : round commands ws m ≡ round rest ws a
-  pub set : Set f m a
-  pub low : Low n a
-  pub inside : Inside n ws
-  pub room : n ≤ length a
-  pub to-come : Passed ps rest ws a
-  pub gone : Passed qs past ws a
-
--- What a round asks is where it begins.
-pub turn-first : (os n : ℕ) (words m : List ℕ) (d : Due)
-    → InsideFrom n words × ((n ≤ 1024) × ((n ≤ length m) × (Low n m × Passed (flags d) commands (chosen os words) m)))
-    → Turn n (chosen os words) m false m (flags d) commands [] []
-turn-first os n words m d h =
-    record {
-      left = refl;
-      set = kept;
-      low = h .1 .1 .1 .0;
-      inside = chosen-inside os words (h .0);
-      room = h .1 .1 .0;
-      to-come = h .1 .1 .1 .1;
-      gone = tt;
-    }
-
-pub turn-next : {n : ℕ} {ws m : List ℕ} {f g p : Bool} {a b : List ℕ} {ps qs : List Bool} {d : Command} {rest past : List Command}
-    → Turn n ws m f a (p ∷ ps) (d ∷ rest) qs past → CommandRan d n ws g a b
-    → Turn n ws m (f || g) b (told g d ps rest) rest (again g d ∷ told g d qs past) (d ∷ past)
+-- The two passes are the round.
+pub round-split : (ws m : List ℕ) → round commands ws m ≡ round isntCommands ws (round isCommands ws m)
 unfolding round
-turn-next {n = n} {ws = ws} {ps = ps} {qs = qs} {d = d} {rest = rest} {past = past} t ran =
-    let others = others-quiet n ws (t .inside) (t .room) d ran in
-    record {
-      left = t .left ∙ ap (round rest ws) (sym (ran .0));
-      set = set-then (t .set) (ran .1 .0);
-      low = ran .1 .1;
-      inside = t .inside;
-      room = ran-room n ws (t .inside) (t .room) d ran;
-      to-come = others ps rest (t .to-come .1);
-      gone = (again-quiet n ws (t .inside) (t .room) d ran (eqb (d .test) (d .put)) refl, others qs past (t .gone));
-    }
+round-split ws m = refl
 
--- Whether one of five commands set a mark, as the code puts it together.
-five : (p q r s t : Bool) → ((((p || q) || r) || s) || t) ≡ (((p || q) || ((r || s) || t)) || false)
-five p q r s t =
-    or-assoc ((p || q) || r) s t
-    ∙ or-assoc (p || q) r (s || t)
-    ∙ ap (λ (x : Bool). (p || q) || x) (sym (or-assoc r s t))
-    ∙ sym (or-false ((p || q) || ((r || s) || t)))
+-- Every command puts one of the three markers.
+pub puts-is : Puts 3 isCommands
+puts-is = (omega arith, (omega arith, (omega arith, tt)))
 
--- What running a round says.
-abbrev RoundRan : ℕ → List ℕ → Due → List ℕ → List ℕ → Type 0
-RoundRan n ws d m a = (a ≡ round commands ws m) × (Set (anyDue d) m a × (Low n a × Passed (flags d) commands ws a))
+puts-isnt : Puts 3 isntCommands
+puts-isnt = (omega arith, (omega arith, tt))
 
--- The five commands have run.
-pub turn-last : {n : ℕ} {ws m : List ℕ} {p q : Bool} (r s t : Bool) {a : List ℕ} {ps : List Bool}
-    → Turn n ws m ((((p || q) || r) || s) || t) a ps [] (false ∷ false ∷ ((r || s) || t) ∷ q ∷ p ∷ [])
-    (toTail 1 U F ∷ toHead 1 U F ∷ toTail 0 F F ∷ toHead 0 U U ∷ toTail 0 T T ∷ [])
-    → RoundRan n ws (record { t = p; u = q; f = (r || s) || t; isnt = false }) m a
-unfolding round
-turn-last {p = p} {q = q} r s t e =
-    let g = e .gone in
-    (sym (e .left), (rw (← five p q r s t) (e .set), (e .low, (g .1 .1 .1 .1 .0, (g .1 .1 .1 .0, (g .1 .1 .0, (g .1 .0, (g .0, tt))))))))
+pub puts-all : Puts 3 commands
+puts-all = (omega arith, (omega arith, (omega arith, (omega arith, (omega arith, tt)))))
 
--- Nothing is asked of a command that is due, and so nothing where all are.
-due : {A : Type 0} → _≡_ {A = Bool} true false → A
-due e = contradiction (sym e)
+module _ (n : ℕ) (ws : List ℕ) (inside : Inside n ws) (m : List ℕ) (room : n ≤ length m) where
+  -- A test that decides whether commands are quiet says whether they set a mark, and bytes below 8 stay so.
+  set-round : (cs : List Command) → Puts 3 cs → (q : Bool) → Decides q (Quiet cs ws m) → Set (not q) m (round cs ws m)
+  set-round cs p q d = set-of (round-step n 3 cs p ws m inside room .grew) q d
 
-pub all-due : (ws m : List ℕ) → Passed (true ∷ true ∷ true ∷ true ∷ true ∷ []) commands ws m
-all-due ws m = (due, (due, (due, (due, (due, tt)))))
+  -- What decides whether nothing was set is the flag, turned round.
+  set-new : (cs : List Command) → Puts 3 cs → (q : Bool) → Decides (not q) (Quiet cs ws m) → Set q m (round cs ws m)
+  set-new cs p q d = rw (not-not q) at (set-round cs p (not q) d)
+
+  low-round : (cs : List Command) → Puts 3 cs → Low n m → Low n (round cs ws m)
+  low-round cs p h = round-step n 3 cs p ws m inside room .low h
+
+-- Commands run on the marks of bytes e.
+module _ (n os : ℕ) (words e : List ℕ) (inside : InsideFrom n words) (room : n ≤ length e) where
+  abbrev ws : List ℕ
+  ws = chosen os words
+
+  abbrev m : List ℕ
+  m = marksOf n e
+
+  in-ws : Inside n ws
+  in-ws = chosen-inside os words inside
+
+  in-m : n ≤ length m
+  in-m = marks-room n e room
+
+  -- Bytes a that their marks are written as.
+  module _ (cs : List Command) (p : Puts 3 cs) (a : List ℕ) (w : a ≡ onNodes isCode n (round cs ws m)) where
+    ran-low : Low n (round cs ws m)
+    ran-low = low-round n ws in-ws m in-m cs p (marks-low n e room)
+
+    pub ran-room : n ≤ length a
+    ran-room = omega (arith, written-long n a (round cs ws m) w, round-room n ws in-ws m in-m cs p)
+
+    pub ran-marks : marksOf n a ≡ round cs ws m
+    ran-marks = written-back n a (round cs ws m) w ran-low
+
+    pub ran-written : Written n a
+    ran-written = written-so n a (round cs ws m) w ran-low
+
+  -- A round in which the pass over "is" came to the bytes a and said new.
+  module _ (a : List ℕ) (w : a ≡ onNodes isCode n (round isCommands ws m)) (new : ℕ) (d : Decides (not (anyNew new)) (Quiet isCommands ws m)) where
+    -- The pass over "is not" may be left out where no U has come since its commands ran, and where no word says "is not".
+    still-quiet : (first isnts : Bool) → (isnts ≡ false → NoIsnt (length words) words) → (first ≡ false → Quiet isntCommands ws m)
+        → (has 6 new ≡ false → (v : ℕ) → v < n → has U (getD (round isCommands ws m) v 0) ≡ has U (getD m v 0))
+        → not ((first || has 6 new) && isnts) ≡ true → Quiet isntCommands ws (round isCommands ws m)
+    still-quiet first false none passed came h = no-isnt os words (round isCommands ws m) (none refl)
+    still-quiet true true none passed came h = contradiction h
+    still-quiet false true none passed came h = at (has 6 new) refl h
+      where
+        at : (q : Bool) → has 6 new ≡ q → not (q && true) ≡ true → Quiet isntCommands ws (round isCommands ws m)
+        at true e k = contradiction k
+        at false e k = isnt-kept n ws in-ws m in-m (passed refl) (came e)
+
+    -- The round is in the bytes b, f says whether it set a mark, and the commands of "is not" are quiet after it.
+    abbrev Done : Bool → List ℕ → Type 0
+    Done f b = (b ≡ onNodes isCode n (round commands ws m)) × (Set f m (round commands ws m) × Quiet isntCommands ws (round commands ws m))
+
+    -- Where the pass over "is not" is left out, that over "is" is the round.
+    pub round-passed : (first isnts : Bool) → (isnts ≡ false → NoIsnt (length words) words) → (first ≡ false → Quiet isntCommands ws m)
+        → (has 6 new ≡ false → (v : ℕ) → v < n → has U (getD (round isCommands ws m) v 0) ≡ has U (getD m v 0))
+        → not ((first || has 6 new) && isnts) ≡ true → Done (anyNew new) a
+    round-passed first isnts none passed came h =
+        let q = still-quiet first isnts none passed came h in
+        let s : round commands ws m ≡ round isCommands ws m = round-split ws m ∙ q in
+        rw s (w, (set-new n ws in-ws m in-m isCommands puts-is (anyNew new) d, q))
+
+    -- Where it is run, from the bytes a to the bytes b, both are.
+    pub round-run : (b : List ℕ) (crossed : ℕ) → b ≡ onNodes isCode n (round isntCommands ws (marksOf n a)) → Decides (not (has 1 crossed)) (Quiet isntCommands ws (marksOf n a))
+        → Done (anyNew new || has 1 crossed) b
+    round-run b crossed v f =
+        let a′ = round isCommands ws m in
+        let k = ran-marks isCommands puts-is a w in
+        let r = round-room n ws in-ws m in-m isCommands puts-is in
+        rw (round-split ws m) (
+          rw k at v,
+          (
+            set-then (set-new n ws in-ws m in-m isCommands puts-is (anyNew new) d)
+                (set-new n ws in-ws a′ r isntCommands puts-isnt (has 1 crossed) (rw k at f)),
+            isnt-ran n ws in-ws a′ r,
+          ),
+        )

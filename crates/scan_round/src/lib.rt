@@ -1,111 +1,84 @@
-// One round: the five commands, one after another, without those that would set nothing.
+// One round: a pass over the "is" links for its first three commands, and one over the "is not" links for the last two, left out where it would set nothing.
 ghost use mathlib.Core.Path.{_≡_};
-ghost use mathlib.Core.Bool.{false};
-ghost use Prim.Native.Nat.{_≤_};
-ghost use lib.ListN.{length};
-ghost use Rattle.theory.specs.Marks.{command, commands, round};
+ghost use mathlib.Core.Bool.{false, not};
+ghost use Prim.Native.Nat.{ℕ, _<_, _≤_};
+ghost use lib.ListN.{length, getD};
+ghost use Rattle.theory_laws.specs.Deciding.{Decides};
+ghost use Rattle.theory.specs.Marks.{U, has, commands, round};
 ghost use Rattle.theory.specs.Origins.{chosen, InsideFrom};
 ghost use Rattle.theory.specs.Growth.{Set};
-ghost use Rattle.scan_start.specs.Starts.{Low};
-ghost use Rattle.scan_link.specs.Asks.{Small};
-ghost use Rattle.scan_round.specs.Quiet.{Quiet, Passed, flags, anyDue};
-use scan_command::run_command;
-use theory::Command;
+ghost use Rattle.scan_block.specs.Signs.{NoIsnt};
+ghost use Rattle.scan_lanes.specs.Codes.{onNodes, isCode, anyNew, marksOf, Written};
+ghost use Rattle.scan_link.specs.Classes.{Table};
+ghost use Rattle.scan_lanes.specs.Passes.{isCommands, isntCommands};
+ghost use Rattle.scan_round.specs.Quiet.{Quiet};
+use scan_block::IS;
+use scan_block::ISNT;
+use scan_block::Signs;
+use scan_fold::code_isnt;
+use scan_fold::fold_is;
+use scan_fold::fold_isnt;
+use scan_pass::run_pass;
 
-// The three markers.
-const T: u8 = 0;
-
-const F: u8 = 1;
-
-const U: u8 = 2;
-
-// The commands, named by sign, by the end that gets a marker and by the marker tested at the other end: "is" hands that marker on, "is not" puts F.
-const IS_TO_TAIL_T: Command = Command {
-    sign: 0,
-    at_head: true,
-    test: T,
-    put: T,
-};
-
-const IS_TO_TAIL_F: Command = Command {
-    sign: 0,
-    at_head: true,
-    test: F,
-    put: F,
-};
-
-const IS_TO_HEAD_U: Command = Command {
-    sign: 0,
-    at_head: false,
-    test: U,
-    put: U,
-};
-
-const NOT_TO_HEAD_U: Command = Command {
-    sign: 1,
-    at_head: false,
-    test: U,
-    put: F,
-};
-
-const NOT_TO_TAIL_U: Command = Command {
-    sign: 1,
-    at_head: true,
-    test: U,
-    put: F,
-};
-
-// Which commands are due: the one that hands on T, on U, on F, and the two of "is not". One is due in the first round, and where the marker that it
-// tests for has come to a node since it ran.
-pub struct Due {
-    pub t: bool,
-    pub u: bool,
-    pub f: bool,
-    pub isnt: bool,
-}
-
-// The command, or nothing where it is not due; whether it set a mark.
-fn run_due(due: bool, set: u32, c: Command, n: usize, words: &[u32], marks: &mut [u8]) -> bool
-    requires small { ⌜ Small c ⌝ }
+// The commands that follow "is". The result has bits 0, 1 and 6 where they put a T, an F, a U.
+fn run_is(few: bool, set: u32, table: &[u8; 8], n: usize, words: &[u32], marks: &mut [u8]) -> u8
+    requires table { ⌜ Table set 0 (now table) ⌝ }
     requires inside { ⌜ InsideFrom n (now words) ⌝ }
     requires room { ⌜ n ≤ length (now marks) ⌝ }
-    requires low { ⌜ Low n (now marks) ⌝ }
-    requires passed { ⌜ (due ≡ false → Quiet c (chosen set (now words)) (now marks)) ⌝ }
-    ensures { λ r. ⌜ now (marks .exit) ≡ command c (chosen set (now (words .entry))) (now (marks .entry)) ⌝ }
-    ensures { λ r. ⌜ Set r (now (marks .entry)) (now (marks .exit)) ⌝ }
-    ensures { λ r. ⌜ Low n (now (marks .exit)) ⌝ }
+    requires written { ⌜ Written n (now marks) ⌝ }
+    ensures { λ r. ⌜ now (marks .exit) ≡ onNodes isCode n (round isCommands (chosen set (now (words .entry))) (marksOf n (now (marks .entry)))) ⌝ }
+    ensures { λ r. ⌜ Decides (not (anyNew r)) (Quiet isCommands (chosen set (now (words .entry))) (marksOf n (now (marks .entry)))) ⌝ }
+    ensures { λ r. ⌜ (has 6 r ≡ false → (v : ℕ) → v < n → has U (getD (round isCommands (chosen set (now (words .entry))) (marksOf n (now (marks .entry)))) v 0) ≡ has U (getD (marksOf n (now (marks .entry))) v 0)) ⌝ }
 {
-    if due {
-        return run_command(set, c, n, words, marks);
-    }
-    false
+    run_pass(few, set, IS, table, n, words, marks);
+    fold_is(n, marks)
 }
 
-// One round, given which commands are due; which are due after it. It set a mark exactly if any is.
-pub fn round(due: Due, n: usize, words: &[u32], set: u32, marks: &mut [u8]) -> Due
+// The commands that follow "is not". The result has bit 1 where they put an F.
+fn run_isnt(few: bool, set: u32, table: &[u8; 8], n: usize, words: &[u32], marks: &mut [u8]) -> u8
+    requires table { ⌜ Table set 1 (now table) ⌝ }
     requires inside { ⌜ InsideFrom n (now words) ⌝ }
-    requires few { ⌜ n ≤ 1024 ⌝ }
     requires room { ⌜ n ≤ length (now marks) ⌝ }
-    requires low { ⌜ Low n (now marks) ⌝ }
-    requires passed { ⌜ Passed (flags due) commands (chosen set (now words)) (now marks) ⌝ }
-    ensures { λ r. ⌜ now (marks .exit) ≡ round commands (chosen set (now (words .entry))) (now (marks .entry)) ⌝ }
-    ensures { λ r. ⌜ Set (anyDue r) (now (marks .entry)) (now (marks .exit)) ⌝ }
-    ensures { λ r. ⌜ Low n (now (marks .exit)) ⌝ }
-    ensures { λ r. ⌜ Passed (flags r) commands (chosen set (now (words .entry))) (now (marks .exit)) ⌝ }
+    requires written { ⌜ Written n (now marks) ⌝ }
+    ensures { λ r. ⌜ now (marks .exit) ≡ onNodes isCode n (round isntCommands (chosen set (now (words .entry))) (marksOf n (now (marks .entry)))) ⌝ }
+    ensures { λ r. ⌜ Decides (not (has 1 r)) (Quiet isntCommands (chosen set (now (words .entry))) (marksOf n (now (marks .entry)))) ⌝ }
 {
-    let t = due.t;
-    let u = due.u;
-    let f = due.f;
-    let isnt = due.isnt;
-    let a = run_due(t, set, IS_TO_TAIL_T, n, words, marks);
-    let b = run_due(u, set, IS_TO_HEAD_U, n, words, marks);
-    let c = run_due(f, set, IS_TO_TAIL_F, n, words, marks);
-    let d = run_due(isnt | b, set, NOT_TO_HEAD_U, n, words, marks);
-    let e = run_due(isnt | b, set, NOT_TO_TAIL_U, n, words, marks);
-    Due {
-        t: a,
-        u: b,
-        f: c | d | e,
-        isnt: false,
+    code_isnt(n, marks);
+    run_pass(few, set, ISNT, table, n, words, marks);
+    fold_isnt(n, marks)
+}
+
+// One round; whether it set a mark. The commands of "is not" test for U alone, so they are passed over where none has come since they ran, and where no word says "is not".
+pub fn round(
+    first: bool,
+    signs: Signs,
+    is_table: &[u8; 8],
+    isnt_table: &[u8; 8],
+    n: usize,
+    words: &[u32],
+    set: u32,
+    marks: &mut [u8],
+) -> bool
+    requires is_table { ⌜ Table set 0 (now «is_table») ⌝ }
+    requires isnt_table { ⌜ Table set 1 (now «isnt_table») ⌝ }
+    requires isnts { ⌜ (signs .isnts ≡ false → NoIsnt (length (now words)) (now words)) ⌝ }
+    requires passed { ⌜ (first ≡ false → Quiet isntCommands (chosen set (now words)) (marksOf n (now marks))) ⌝ }
+    requires inside { ⌜ InsideFrom n (now words) ⌝ }
+    requires room { ⌜ n ≤ length (now marks) ⌝ }
+    requires written { ⌜ Written n (now marks) ⌝ }
+    ensures { λ r. ⌜ now (marks .exit) ≡ onNodes isCode n (round commands (chosen set (now (words .entry))) (marksOf n (now (marks .entry)))) ⌝ }
+    ensures { λ r. ⌜ Set r (marksOf n (now (marks .entry))) (round commands (chosen set (now (words .entry))) (marksOf n (now (marks .entry)))) ⌝ }
+    ensures { λ r. ⌜ Quiet isntCommands (chosen set (now (words .entry))) (round commands (chosen set (now (words .entry))) (marksOf n (now (marks .entry)))) ⌝ }
+{
+    let few_is = signs.few_is;
+    let few_isnt = signs.few_isnt;
+    let isnts = signs.isnts;
+    let new = run_is(few_is, set, is_table, n, words, marks);
+    let came = new / 64 % 2 == 1;
+    let changed = came | (new % 4 != 0);
+    if !((first | came) & isnts) {
+        return changed;
     }
+    let crossed = run_isnt(few_isnt, set, isnt_table, n, words, marks);
+    changed | (crossed / 2 % 2 == 1)
 }

@@ -1,18 +1,25 @@
 // The nodes that a link command of the marker unit is to mark, kept aside in 1,024 bits.
 ghost use mathlib.Core.Path.{_≡_};
-ghost use Prim.Native.Nat.{_<_, _≤_};
+ghost use Prim.Native.Nat.{_^_, _<_, _≤_};
 ghost use lib.ListN.{length};
-ghost use Rattle.theory.specs.Marks.{has};
+ghost use Rattle.theory.specs.Marks.{has, near, far};
 ghost use Rattle.theory.specs.Origins.{chosen, EndsFrom, InsideFrom};
 ghost use Rattle.theory.proofs.origins.Folds.{picking};
 ghost use Rattle.unit_gather.specs.Asks.{InByte};
 ghost use Rattle.unit_gather.specs.Aside.{firesOn, gatherOne, gather};
+use net_word::head_of;
 use net_word::is_chosen;
 use net_word::plain_of;
-use scan_link::bit_of;
-use scan_link::far_of;
-use scan_link::near_of;
+use net_word::tail_of;
 use theory::Command;
+
+// The byte of marker `j` alone.
+pub fn bit_of(j: u8) -> u8
+    requires { ⌜ j < 8 ⌝ }
+    ensures { λ r. ⌜ r ≡ 2 ^ j ⌝ }
+{
+    1 << j
+}
 
 // Whether a byte has bit `j`.
 pub fn has_bit(byte: u8, j: u8) -> bool
@@ -20,6 +27,28 @@ pub fn has_bit(byte: u8, j: u8) -> bool
     ensures { λ r. ⌜ r ≡ has j byte ⌝ }
 {
     (byte >> j) % 2 == 1
+}
+
+// The end of a link that a command tests: the tail, or where `at_head` holds the head.
+fn near_of(at_head: bool, word: u32) -> usize
+    ensures { λ r. ⌜ r ≡ near «at_head» word ⌝ }
+{
+    if at_head {
+        head_of(word)
+    } else {
+        tail_of(word)
+    }
+}
+
+// The other end, where it puts its marker.
+pub fn far_of(at_head: bool, word: u32) -> usize
+    ensures { λ r. ⌜ r ≡ far «at_head» word ⌝ }
+{
+    if at_head {
+        tail_of(word)
+    } else {
+        head_of(word)
+    }
 }
 
 // Whether the set of origins chooses a word and it fires under a command.

@@ -1,3 +1,0 @@
-pub mod Links
-pub mod Blocks
-pub mod Folding
