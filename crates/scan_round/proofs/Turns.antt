@@ -52,7 +52,7 @@ pub puts-all : Puts 3 commands
 puts-all = (omega arith, (omega arith, (omega arith, (omega arith, (omega arith, tt)))))
 
 module _ (n : ℕ) (ws : List ℕ) (inside : Inside n ws) (m : List ℕ) (room : n ≤ length m) where
-  -- A test that decides whether commands are quiet says whether they set a mark, and bytes below 8 stay so.
+  -- A test that decides whether commands are quiet says whether they set a mark.
   set-round : (cs : List Command) → Puts 3 cs → (q : Bool) → Decides q (Quiet cs ws m) → Set (not q) m (round cs ws m)
   set-round cs p q d = set-of (round-step n 3 cs p ws m inside room .grew) q d
 
@@ -60,6 +60,7 @@ module _ (n : ℕ) (ws : List ℕ) (inside : Inside n ws) (m : List ℕ) (room :
   set-new : (cs : List Command) → Puts 3 cs → (q : Bool) → Decides (not q) (Quiet cs ws m) → Set q m (round cs ws m)
   set-new cs p q d = rw (not-not q) at (set-round cs p (not q) d)
 
+  -- Bytes below 8 stay so.
   low-round : (cs : List Command) → Puts 3 cs → Low n m → Low n (round cs ws m)
   low-round cs p h = round-step n 3 cs p ws m inside room .low h
 

@@ -1,12 +1,9 @@
--- The bytes below v are written, and the others still to be.
-use Prim.Native.Nat.{ℕ, _-_, _≤_}
-use mathlib.Core.Path.{_≡_, refl, sym, ap, _∙_}
-use mathlib.Core.List.{_++_}
+-- The bytes below v are written.
+use Prim.Native.Nat.{ℕ, _-_}
 use borrow.Author.Needs.{needs}
 use native.Mathlib.Omega.{arith}
-use lib.ListN.{length, take, drop, length-set}
-use Rattle.scan_lanes.specs.Codes.{onNodes, isMarks, isntCode}
-use Rattle.scan_fold.proofs.Nodes.{nodes-go, nodes-end}
+use Rattle.scan_lanes.specs.Codes.{isMarks, isntCode}
+use Rattle.scan_fold.proofs.Loops.{Changed, changed-none, changed-go, changed-all}
 use Rattle.scan_fold.proofs.code_isnt.Statement.{statement}
 use Rattle.scan_fold.proofs.code_isnt.Tie as tie
 
@@ -14,32 +11,29 @@ abbrev change : ℕ → ℕ
 change e = isntCode (isMarks e)
 
 abbrev Inv-loop : tie.InvT-loop
-Inv-loop n marks₀ v₀ marks v =
-    (v ≤ n) × (length marks ≡ length marks₀) × (onNodes change n marks₀ ≡ take v marks ++ onNodes change (n - v) (drop v marks))
+Inv-loop n marks₀ v₀ marks v = Changed change n marks₀ marks v
 
 abbrev μ-loop : tie.MeasureT-loop
 μ-loop n marks₀ v₀ marks v = n - v
 
 loop-holds : tie.Need-loop-holds Inv-loop μ-loop
-loop-holds c = (search needs, refl, ap (λ (k : ℕ). onNodes change k (c .before .args .marks .now)) (omega arith))
+loop-holds c = changed-none change (c .before .args .n) (c .before .args .marks .now)
 
 loop-again : tie.Need-loop-again Inv-loop μ-loop
 loop-again c =
     let at = c .before .before .before in
     let a = at .before .before .args in
-    let inv = at .loop .inv in (
-      omega arith,
-      simp length-set (inv .1),
-      inv .2 ∙ nodes-go change (a .n) (at .loop .v) (at .loop .marks) (c .isnt-code .ensures) (omega arith) (omega arith),
-    )
+    let l = at .loop in
+    changed-go change (a .n) (a .marks .now) (l .marks) (l .v) (l .inv) (c .isnt-code .result) (c .isnt-code .ensures) (omega arith) (omega arith)
 
 same-length : tie.Need-same-length Inv-loop μ-loop
 same-length c = c .before .loop .inv .1
 
 returns : tie.Need-returns Inv-loop μ-loop
 returns c =
-    let at = c .before in
-    sym (at .loop .inv .2 ∙ nodes-end change (at .before .before .args .n) (at .loop .v) (at .loop .marks) (omega arith))
+    let l = c .before .loop in
+    let a = c .before .before .before .args in
+    changed-all change (a .n) (a .marks .now) (l .marks) (l .v) (l .inv) (omega arith)
 
 pub code-isnt-spec : {M : Type 1} → statement M
 code-isnt-spec =

@@ -1,62 +1,38 @@
--- The marks below v are folded in, and the others still to be; each bit of `new` speaks for the nodes below v.
-use Prim.Native.Nat.{ℕ, _-_, _<_, _≤_}
-use mathlib.Core.Path.{_≡_, refl, sym, ap, _∙_}
-use mathlib.Core.List.{_++_}
+-- The bytes below v are folded, and `new` speaks for them.
+use Prim.Native.Nat.{_-_}
 use borrow.Author.Needs.{needs}
 use native.Mathlib.Omega.{arith}
-use lib.Bits.{bitAnd}
-use lib.ListN.{length, getD, take, drop, length-set}
-use Rattle.scan_lanes.specs.Codes.{onNodes, isCode, isntMarks, newIn, NoneNew}
-use Rattle.scan_fold.proofs.Nodes.{nodes-go, nodes-end, left-at, left-go, new-none, new-go, new-end}
+use Rattle.scan_lanes.specs.Codes.{isntMarks}
+use Rattle.scan_fold.proofs.Loops.{Folded, folded-none, folded-go, folded-all}
 use Rattle.scan_fold.proofs.fold_isnt.Statement.{statement}
 use Rattle.scan_fold.proofs.fold_isnt.Tie as tie
 
-abbrev change : ℕ → ℕ
-change e = isCode (isntMarks e)
-
 abbrev Inv-loop : tie.InvT-loop
-Inv-loop n marks₀ new₀ v₀ marks new v =
-    (v ≤ n) × (length marks ≡ length marks₀) × (onNodes change n marks₀ ≡ take v marks ++ onNodes change (n - v) (drop v marks))
-    × (drop v marks ≡ drop v marks₀) × ((i : ℕ) → i < 8 → NoneNew isntMarks i v marks₀ new)
+Inv-loop n marks₀ new₀ v₀ marks new v = Folded isntMarks n marks₀ marks new v
 
 abbrev μ-loop : tie.MeasureT-loop
 μ-loop n marks₀ new₀ v₀ marks new v = n - v
 
 loop-holds : tie.Need-loop-holds Inv-loop μ-loop
-loop-holds c =
-    let m = c .before .args .marks .now in
-    (search needs, refl, ap (λ (k : ℕ). onNodes change k m) (omega arith), refl, new-none isntMarks m)
+loop-holds c = folded-none isntMarks (c .before .args .n) (c .before .args .marks .now)
 
 loop-again : tie.Need-loop-again Inv-loop μ-loop
 loop-again c =
-    let fold = c .before in
-    let at = fold .before .before .before in
+    let at = c .before .before .before .before in
     let a = at .before .before .args in
-    let inv = at .loop .inv in
-    let v = at .loop .v in
-    let m = at .loop .marks in
-    let told = fold .isnt-folded .ensures in
-    let e = left-at v m (a .marks .now) (inv .3) in
-    let fresh : c .new-bits .result ≡ newIn isntMarks (getD (a .marks .now) v 0) =
-    c .new-bits .ensures ∙ ap (λ (x : ℕ). bitAnd x (255 - getD m v 0)) told ∙ ap (newIn isntMarks) e in (
-      omega arith,
-      simp length-set (inv .1),
-      inv .2 ∙ nodes-go change (a .n) v m told (omega arith) (omega arith),
-      left-go v m (a .marks .now) (inv .3) (fold .isnt-folded .result),
-      new-go isntMarks v (a .marks .now) (at .loop .new) (inv .4) (c .new-bits .result) fresh,
-    )
+    let l = at .loop in
+    let x = c .before .isnt-folded in
+    let y = c .new-bits in
+    folded-go isntMarks (a .n) (a .marks .now) (l .marks) (l .new) (l .v) (l .inv) (x .result) (y .result) (x .ensures) (y .ensures) (omega arith) (omega arith)
 
 same-length : tie.Need-same-length Inv-loop μ-loop
-same-length c = c .before .loop .inv .1
+same-length c = c .before .loop .inv .0 .1
 
 returns : tie.Need-returns Inv-loop μ-loop
 returns c =
-    let at = c .before in
-    let a = at .before .before .args in
-    let inv = at .loop .inv in (
-      sym (inv .2 ∙ nodes-end change (a .n) (at .loop .v) (at .loop .marks) (omega arith)),
-      new-end isntMarks (at .loop .v) (a .marks .now) (at .loop .new) (inv .4) (a .n) (inv .0) (omega arith),
-    )
+    let l = c .before .loop in
+    let a = c .before .before .before .args in
+    folded-all isntMarks (a .n) (a .marks .now) (l .marks) (l .new) (l .v) (l .inv) (omega arith)
 
 pub fold-isnt-spec : {M : Type 1} → statement M
 fold-isnt-spec =
