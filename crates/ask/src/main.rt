@@ -1,4 +1,5 @@
 // `ask`: one net file on standard input, its text on standard output.
+#![tactic(auto)]
 use libc::{STDIN_FILENO, STDOUT_FILENO};
 
 // One byte more than the largest file is read, so that a larger one is seen to be larger.

@@ -1,4 +1,5 @@
 // The numbers by which the parts of a line are written.
+#![tactic(auto)]
 
 // The signs: x → y and x ↛ y.
 pub const IS: u32 = 0;

@@ -1,4 +1,5 @@
 // `fleet`: net files on standard input, each after its length in four bytes; a line for each and the total on standard output ([11]).
+#![tactic(auto)]
 ghost use Rattle.std.specs.Prelude.{suc, ◌-◌, ◌≤◌, ◌≡◌, cond, length};
 ghost use Rattle.fleet_text.specs.Sums.{Sums};
 

@@ -2,7 +2,7 @@
 use Prim.Native.Nat.{ℕ, suc, ◌+◌, ◌<◌, ◌≤◌, zero-le, suc-le-suc}
 use mathlib.Core.Path.{◌≡◌, refl, sym, ap, subst, ◌∙◌}
 use mathlib.Core.Bool.{Bool, true, false, cond}
-use mathlib.Core.List.{List, ◌∷◌, Memᴰ}
+use mathlib.Core.List.{List, [], ◌∷◌, Memᴰ}
 use mathlib.Core.Logic.{◌↔◌}
 use native.Mathlib.Omega.{arith}
 use native.Mathlib.Nat.{le_refl, le_of_lt}
@@ -30,6 +30,7 @@ use Rattle.net.proofs.Passing.{passing_passes, passing_fails, passing_is}
 
 -- What holds at every place of a list holds of every member.
 at_places : (P : ℕ → Type 0) (ws : List ℕ) → ((j : ℕ) → j < length ws → P (get_or ws j 0)) → (w : ℕ) → Memᴰ w ws → P w
+at_places P [] f w m = elim m [ ]
 at_places P (v ∷ ws) f w (Memᴰ.head e) = subst P (sym e) (f 0 (suc-le-suc zero-le))
 at_places P (v ∷ ws) f w (Memᴰ.tail h) = at_places P ws (λ j l. f (suc j) (suc-le-suc l)) w h
 

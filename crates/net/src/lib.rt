@@ -1,4 +1,6 @@
 // The check of a net, with which every operation on one begins: numbers 1, 2, 15 and 3 of the number table, in that order; the check of a plain list: numbers 1 to 3; the tests of number 4 for a statement; the refusals that all operations pass on, and a reply as a struct.
+#![tactic(auto)]
+
 ghost use Rattle.std.specs.Prelude.{◌≡◌};
 ghost use Rattle.net_word.specs.Legal.{legal_from};
 ghost use Rattle.net.specs.Passing.{passing};

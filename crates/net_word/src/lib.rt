@@ -1,4 +1,6 @@
 // A link word's parts, its origin among them; whether a set of origins chooses it; the test of one word, and why a word fails it.
+#![tactic(auto)]
+
 ghost use Rattle.std.specs.Prelude.{◌≡◌, ◌≤◌};
 ghost use Rattle.theory.specs.Words.{tail_of, head_of};
 ghost use Rattle.theory.specs.Origins.{origin_of, plain_of, origin_limit, chooses};

@@ -1,4 +1,5 @@
 // Runs the cases of standard input on the proved operations and on the second engine, and says of each whether they agree.
+#![tactic(auto)]
 
 mod replies; // replies.rt: number and values of the proved operations' answers
 mod proved; // proved.rt: the proved operations

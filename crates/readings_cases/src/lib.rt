@@ -1,4 +1,5 @@
 // The cases of `readings`: standard input line by line, the fields of a line, the operation that a line asks, its buffers, and what is printed.
+#![tactic(auto)]
 
 pub mod places; // places.rt: reading and writing at any place of a slice
 pub mod widths; // widths.rt: numbers as bytes and as u16, and back

@@ -1,4 +1,5 @@
 // One step of a path: whether a plain word makes it, and whether it repeats a kind.
+#![tactic(auto)]
 ghost use Rattle.std.specs.Prelude.{◌≡◌};
 ghost use Rattle.reason_check_step.specs.Steps.{word_says, makes, repeats};
 

@@ -1,4 +1,5 @@
 // The signs of words, a block of eight at a time: what a pass over the words of one sign need not look at.
+#![tactic(auto)]
 ghost use Rattle.std.specs.Prelude.{◌≡◌, false, ◌+◌, ◌%◌, ◌≤◌, length};
 ghost use Rattle.scan_block.specs.Signs.{None, NoIsnt};
 

@@ -1,4 +1,5 @@
 // The marks at the start of a scan: the nodes cleared, and the start marked.
+#![tactic(auto)]
 ghost use Rattle.std.specs.Prelude.{◌≡◌, ◌++◌, ◌<◌, ◌≤◌, length, drop};
 ghost use Rattle.theory.specs.Marks.{scan_start};
 ghost use Rattle.scan_start.specs.Starts.{cleared};

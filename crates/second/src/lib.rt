@@ -1,5 +1,6 @@
 // A second engine for the operations of 01, and of 02 as far as it has landed, written from the request alone: it closes a table of all
 // pairs under the support rules, where the proved engine spreads markers. It promises to be safe and to end; its answers are there to be compared.
+#![tactic(auto)]
 
 mod reply; // reply.rt: number and values of an answer
 mod places; // places.rt: reading and writing at any place of a lent slice

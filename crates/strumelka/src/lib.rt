@@ -1,4 +1,5 @@
 // What a C or a Rust program links: each operation, its answer given as a reply.
+#![tactic(auto)]
 ghost use Rattle.std.specs.Prelude.{◌≡◌};
 ghost use Rattle.net.specs.Table.{check_net, checked_reply};
 ghost use Rattle.check_word.specs.Table.{check_word, word_reply};

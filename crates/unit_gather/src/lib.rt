@@ -1,4 +1,5 @@
 // The nodes that a link command of the marker unit is to mark, kept aside in 1,024 bits.
+#![tactic(auto)]
 ghost use Rattle.std.specs.Prelude.{◌≡◌, ◌^◌, ◌<◌, ◌≤◌, length};
 ghost use Rattle.theory.specs.Marks.{has, near, far};
 ghost use Rattle.theory.specs.Origins.{chosen, EndsFrom, InsideFrom};

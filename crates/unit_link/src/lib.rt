@@ -1,5 +1,6 @@
 // A link command of the marker unit over the links that a set of origins chooses. Where it tests for the marker that it puts, the nodes that it is to mark
 // are kept aside and marked afterwards; where it tests for another, they are marked at once.
+#![tactic(auto)]
 ghost use Rattle.std.specs.Prelude.{◌≡◌, cond, ◌<◌, ◌≤◌, length};
 ghost use Rattle.theory.specs.Marks.{mark, command};
 ghost use Rattle.theory.specs.Growth.{Set};

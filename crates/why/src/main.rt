@@ -1,4 +1,5 @@
 // `why`: one net file on standard input; the answers to its questions on standard output, and below each why.
+#![tactic(auto)]
 use libc::{STDIN_FILENO, STDOUT_FILENO};
 use why_text::take_turn;
 

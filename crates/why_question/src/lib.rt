@@ -1,4 +1,5 @@
 // What `why` prints for one question: the line of `ask`, and below it why.
+#![tactic(auto)]
 ghost use Rattle.std.specs.Prelude.{◌<◌, ◌≤◌, length};
 ghost use Rattle.text_field.specs.Writing.{Wrote};
 ghost use Rattle.why_question.specs.Because.{both_room, question_room, both_text, because_text, asked_text, question_text};

@@ -1,5 +1,5 @@
 -- What is true of a compacted list: it supports what the words did, it needs each of its words, and compacting it again changes nothing.
-use Prim.Native.Nat.{ℕ, zero, suc, ◌+◌, ◌≤◌, ◌<◌}
+use Prim.Native.Nat.{ℕ, zero, suc, ◌≤◌, ◌<◌}
 use mathlib.Core.Path.{◌≡◌, refl, subst, sym, ap, ◌∙◌}
 use mathlib.Core.List.{List, [], ◌∷◌, Memᴰ}
 use mathlib.Core.Logic.{inl, inr}
@@ -7,7 +7,7 @@ use native.Mathlib.Omega.{arith}
 use native.Mathlib.Decide.{ℕ_discrete}
 use lib.ListN.{length, get_or}
 use Rattle.theory.specs.Words.{Sign, sign_of, sign_at}
-use Rattle.theory.specs.Nets.{Links, AllIn, LegalWords, Net}
+use Rattle.theory.specs.Nets.{Links, AllIn, Net}
 use Rattle.theory.specs.Support.{Supported, linked}
 use Rattle.theory.specs.Completion.{Ascending, complete}
 use Rattle.theory.specs.Sorting.{tidied}

@@ -1,5 +1,5 @@
 -- A sorted list without its repeats is ascending and has the same numbers.
-use Prim.Native.Nat.{ℕ, suc, ◌+◌, ◌≤◌, ◌<◌}
+use Prim.Native.Nat.{ℕ, suc, ◌≤◌}
 use mathlib.Core.Path.{◌≡◌, refl, sym, ap, ◌∙◌}
 use mathlib.Core.Bool.{Bool, true, false, cond}
 use mathlib.Core.List.Memᴰ
@@ -10,7 +10,7 @@ use borrow.Author.Tests.{eqb-true, eqb-false}
 use lib.Dec.{eqb, leb}
 use lib.ListN.{length}
 use Rattle.theory.specs.Completion.{Ascending}
-use Rattle.theory.specs.Sorting.{times_in, Rising, insert, sort, changes_from, without_repeats, tidied}
+use Rattle.theory.specs.Sorting.{Rising, insert, sort, changes_from, without_repeats, tidied}
 use Rattle.theory.proofs.compaction.Counting.{times_sort, member_times, times_member}
 use Rattle.theory.proofs.compaction.Rising.{sort_rising}
 

@@ -1,5 +1,5 @@
 -- Laws of ascending lists, and of the words that statements are written as.
-use Prim.Native.Nat.{ℕ, zero, suc, ◌+◌, ◌%◌, ◌≤◌, ◌<◌}
+use Prim.Native.Nat.{ℕ, zero, suc, ◌%◌, ◌≤◌, ◌<◌}
 use mathlib.Core.Path.{◌≡◌, refl, sym, ◌∙◌, ap}
 use mathlib.Core.List.Memᴰ
 use mathlib.Core.List.{List, [], ◌∷◌, ◌++◌, Memᴰ}
@@ -41,8 +41,11 @@ ascending_from lo hi [] h a = tt
 ascending_from lo hi (w ∷ l) h a = (omega arith, a.1)
 
 pub ascending_low : (lo : ℕ) (l : List ℕ) → Ascending lo l → (w : ℕ) → Memᴰ w l → lo ≤ w
-ascending_low lo l a w (Memᴰ.head {x = x} e) = let h = a.0 in omega arith
-ascending_low lo l a w (Memᴰ.tail {x = x} {xs = xs} m) = let h = a.0 in let i = ascending_low (suc x) xs a.1 w m in omega arith
+ascending_low lo l a w m = at lo l a m
+  where
+    at : (lo : ℕ) (l : List ℕ) → Ascending lo l → Memᴰ w l → lo ≤ w
+    at lo l a (Memᴰ.head {x = x} e) = let h = a.0 in omega arith
+    at lo l a (Memᴰ.tail {x = x} {xs = xs} m) = let h = a.0 in let i = at (suc x) xs a.1 m in omega arith
 
 pub ascending_append : (lo hi : ℕ) (a b : List ℕ) → Ascending lo a → ((w : ℕ) → Memᴰ w a → w < hi) → Ascending hi b → lo ≤ hi → Ascending lo (a ++ b)
 ascending_append lo hi [] b p q r h = ascending_from lo hi b h r

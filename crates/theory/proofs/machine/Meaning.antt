@@ -19,11 +19,11 @@ use Rattle.theory.proofs.machine.Soundness.{Within, Follows, Every, quiet_closed
 use Rattle.theory.proofs.machine.Starts.{start_long, start_within, start_has_T, start_has_U, commands_put_8}
 
 -- ── what is carried along a chain of links ──
-pub carried_up : (L : Statements) (P : ℕ → Type 0) → ((u y : ℕ) → L u y is → P u → P y) → {x y : ℕ} → Up L y x → P x → P y
+pub carried_up : (L : Statements) (P : ℕ → Type 0) → ((u y : ℕ) → L u y is → P u → P y) → {y x : ℕ} → Up L y x → P x → P y
 carried_up L P r (here e) p = subst P e p
 carried_up L P r (step {x = x} {z = z} l u) p = carried_up L P r u (r x z l p)
 
-pub carried_down : (L : Statements) (P : ℕ → Type 0) → ((u y : ℕ) → L y u is → P u → P y) → {x y : ℕ} → Up L y x → P y → P x
+pub carried_down : (L : Statements) (P : ℕ → Type 0) → ((u y : ℕ) → L y u is → P u → P y) → {y x : ℕ} → Up L y x → P y → P x
 carried_down L P r (here e) p = subst P (sym e) p
 carried_down L P r (step {x = x} {z = z} l u) p = r z x l (carried_down L P r u p)
 

@@ -44,8 +44,11 @@ any_some p (w ∷ ws) h = or_split (p w) (any p ws) h
 
 pub any_of : (p : ℕ → Bool) (ws : List ℕ) (w : ℕ) → Memᴰ w ws → p w ≡ true → any p ws ≡ true
 unfolding any
-any_of p ws w (Memᴰ.head {x = x} {xs = xs} e) h = ap (λ (q : Bool). q || any p xs) (rw e at h)
-any_of p ws w (Memᴰ.tail {x = x} {xs = xs} m) h = ap (λ (q : Bool). p x || q) (any_of p xs w m h) ∙ or_true (p x)
+any_of p ws w m h = at ws m
+  where
+    at : (ws : List ℕ) → Memᴰ w ws → any p ws ≡ true
+    at ws (Memᴰ.head {x = x} {xs = xs} e) = ap (λ (q : Bool). q || any p xs) (rw e at h)
+    at ws (Memᴰ.tail {x = x} {xs = xs} m) = ap (λ (q : Bool). p x || q) (at xs m) ∙ or_true (p x)
 
 sign_of : (w : ℕ) → sign_number (sign_at (w % 2)) ≡ w % 2
 sign_of w = at (w % 2) (omega arith)

@@ -18,7 +18,7 @@ module _ (L M : Statements) (p q : ℕ) where
   -- ── the link says → ──
   module _ (a : Adds L M p q is) where
     -- A way up goes over the new link or does without.
-    up_split : {x y : ℕ} → Up M y x → Up L y x ⊎ (Up M p x × Up M y q)
+    up_split : {y x : ℕ} → Up M y x → Up L y x ⊎ (Up M p x × Up M y q)
     up_split (here e) = inl (here e)
     up_split {y = y} (step {x = x} {z = z} l u) = at (a.old x z is l) (up_split u)
       where
@@ -48,7 +48,7 @@ module _ (L M : Statements) (p q : ℕ) where
 
   -- ── the link says ↛ ──
   module _ (a : Adds L M p q isnt) where
-    up_old : {x y : ℕ} → Up M y x → Up L y x
+    up_old : {y x : ℕ} → Up M y x → Up L y x
     up_old (here e) = here e
     up_old (step {x = x} {z = z} l u) = step (⊎_elim (λ g. g) (λ e. let z = e.2 in absurd (omega arith)) (a.old x z is l)) (up_old u)
 

@@ -2,7 +2,7 @@
 use Prim.Native.Nat.{ℕ}
 use mathlib.Core.Path.{refl}
 use mathlib.Core.List.{List}
-use mathlib.Core.Logic.{◌⊎◌, inl, inr, ⊎_swap}
+use mathlib.Core.Logic.{inl, inr, ⊎_swap}
 use Rattle.theory.specs.Words.{is, isnt}
 use Rattle.theory.specs.Nets.{Statements, Links, LegalWords}
 use Rattle.theory.specs.Paths.{Crossing}

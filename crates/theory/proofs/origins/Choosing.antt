@@ -95,6 +95,7 @@ module _ (set : ℕ) where
 
   member_chosen : (ws : List ℕ) (w : ℕ) → Memᴰ w ws → chooses set w ≡ true → Memᴰ (plain_of w) (chosen set ws)
   unfolding chosen
+  member_chosen [] w x e = elim x [ ]
   member_chosen (x ∷ ws) w (Memᴰ.head h) e = rw (ap (chooses set) (sym h) ∙ e) (Memᴰ.head (ap plain_of h))
   member_chosen (x ∷ ws) w (Memᴰ.tail h) e = at (chooses set x) (member_chosen ws w h e)
     where

@@ -122,12 +122,15 @@ module _ (E : ℕ → ℕ → Type 0) (t m i : ℕ) (hi : suc i < never) where
 
   closes : (l : List Arc) (d : List ℕ) → length d ≡ m → Between l → (e : Arc) → Memᴰ e l → get_or d e.to never ≡ i → get_or (level i l d) e.from never ≡ never → ⊥
   unfolding level
-  closes l d le g e (Memᴰ.head {x = x} {xs = xs} q) a z =
-      let (r, hf, ht) = g e (Memᴰ.head q) in
-      let h : get_or (stepped i x d) e.from never ≡ never → ⊥ = rw (← q) (now_set (opens i e d) d e.from (omega arith) (not_open e d a)) in
-      h (sym (level_keeps i xs (stepped i x d) e.from h) ∙ z)
-  closes l d le g e (Memᴰ.tail {x = x} {xs = xs} y) a z =
-      closes xs (stepped i x d) (step_length i x d ∙ le) (λ f v. g f (Memᴰ.tail v)) e y (step_keeps i x d e.to (λ h. omega arith) ∙ a) z
+  closes l d le g e q a z = at l d le g q a z
+    where
+      at : (l : List Arc) (d : List ℕ) → length d ≡ m → Between l → Memᴰ e l → get_or d e.to never ≡ i → get_or (level i l d) e.from never ≡ never → ⊥
+      at l d le g (Memᴰ.head {x = x} {xs = xs} q) a z =
+          let (r, hf, ht) = g e (Memᴰ.head q) in
+          let h : get_or (stepped i x d) e.from never ≡ never → ⊥ = rw (← q) (now_set (opens i e d) d e.from (omega arith) (not_open e d a)) in
+          h (sym (level_keeps i xs (stepped i x d) e.from h) ∙ z)
+      at l d le g (Memᴰ.tail {x = x} {xs = xs} y) a z =
+          at xs (stepped i x d) (step_length i x d ∙ le) (λ f v. g f (Memᴰ.tail v)) y (step_keeps i x d e.to (λ h. omega arith) ∙ a) z
 
   module _ (l : List Arc) (d : List ℕ) (le : length d ≡ m) (g : Between l) (listed : (a b : ℕ) → E a b → Among l a b) (tab : PlacesAfter E t m i d) where
     deeper : (s b : ℕ) (q : List ℕ) → get_or (level i l d) s never ≡ never → ((q : List ℕ) → Route E t s q → i < length q) → E s b → Route E t b q → length q ≡ i

@@ -66,8 +66,11 @@ module _ (n : ℕ) where
   -- what stands among a word's own moves stands among all
   own_listed : (s : Sign) (ws : List ℕ) (w : ℕ) → Memᴰ w ws → (c : Arc) → ((l : List Arc) → Memᴰ c (arcs_of n s (tail_of w) (head_of w) (parity w) l)) → Memᴰ c (arcs n s ws)
   unfolding arcs
-  own_listed s ws w (Memᴰ.head {x = x} {xs = xs} e) c f = rw e at (f (arcs n s xs))
-  own_listed s ws w (Memᴰ.tail {x = x} {xs = xs} m) c f = after_word s (tail_of x) (head_of x) (parity x) (arcs n s xs) c (own_listed s xs w m c f)
+  own_listed s ws w m c f = at ws m
+    where
+      at : (ws : List ℕ) → Memᴰ w ws → Memᴰ c (arcs n s ws)
+      at ws (Memᴰ.head {x = x} {xs = xs} e) = rw e at (f (arcs n s xs))
+      at ws (Memᴰ.tail {x = x} {xs = xs} m) = after_word s (tail_of x) (head_of x) (parity x) (arcs n s xs) c (at xs m)
 
   up_arc : (s : Sign) (w p a b : ℕ) → p ≡ 0 → tail_of w ≡ a → head_of w ≡ b → (l : List Arc) → Memᴰ (arc a b) (arcs_of n s (tail_of w) (head_of w) p l)
   up_arc is w zero a b e p q l = Memᴰ.head (arc_path _ _ _ _ (sym p) (sym q))

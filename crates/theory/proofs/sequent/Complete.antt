@@ -1,8 +1,8 @@
 -- The calculus is complete: what is supported has a proof, so that a statement is supported exactly if it has one.
-use Prim.Native.Nat.{ℕ, ◌+◌, ◌≤◌, ◌<◌}
+use Prim.Native.Nat.{ℕ, ◌+◌, ◌<◌}
 use mathlib.Core.Path.{◌≡◌, refl, sym, subst, ap, ◌∙◌}
 use mathlib.Core.List.{List, ◌∷◌, Memᴰ}
-use mathlib.Core.Logic.{◌⊎◌, inl, inr, ◌↔◌}
+use mathlib.Core.Logic.{inl, inr, ◌↔◌}
 use native.Mathlib.Omega.{arith}
 use native.Mathlib.Decide.{dec_lt}
 use Rattle.theory.specs.Words.{Sign, is, isnt, word, sign_at, sign_of}
@@ -12,7 +12,7 @@ use Rattle.theory.specs.Paths.{Crossing}
 use Rattle.theory.specs.Sequents.{Individual, Fresh, LeftRule, →⊢, →⊢', ↛⊢, ↛⊢', uses, asks_kind, asks_sign, gives_kind, gives_sign, Proof, ax, right, left}
 use Rattle.theory.proofs.Legal.{legal_links}
 use Rattle.theory.proofs.completion.Ascending.{word_of_parts, sign_at_number}
-use Rattle.theory.proofs.support.Reach.{Up, here, step, Apart, Reached, after_link, ends_in, supported_reached}
+use Rattle.theory.proofs.support.Reach.{Up, here, step, Reached, after_link, ends_in, supported_reached}
 use Rattle.theory.proofs.sequent.Sound.{sound}
 
 -- A link of the net is one of its words.
@@ -42,11 +42,11 @@ module _ (o k : ℕ) (ws : List ℕ) (net : Net o k ws) where
     along : (r : LeftRule) (p q : ℕ) → Kind o k p → Kind o k q → L p q (uses r) → Proof o k Γ a (asks_kind r p q) (asks_sign r) → Proof o k Γ a (gives_kind r p q) (gives_sign r)
     along r p q hp hq l d = left r a p q one hp hq (part _ (link_listed ws p q (uses r) l)) d (ax one (Memᴰ.head refl))
 
-    upwards : {p q : ℕ} → Kind o k p → Up L q p → Proof o k Γ a p is → Proof o k Γ a q is
+    upwards : {q p : ℕ} → Kind o k p → Up L q p → Proof o k Γ a p is → Proof o k Γ a q is
     upwards {q = q} h (here e) d = subst (λ (z : ℕ). Proof o k Γ a z is) e d
     upwards h (step {x = x} {z = z} l u) d = let hz = head_kind x z is l in upwards hz u (along →⊢ x z h hz l d)
 
-    downwards : {p q : ℕ} → Kind o k p → Up L q p → Proof o k Γ a q isnt → Proof o k Γ a p isnt
+    downwards : {q p : ℕ} → Kind o k p → Up L q p → Proof o k Γ a q isnt → Proof o k Γ a p isnt
     downwards h (here e) d = subst (λ (z : ℕ). Proof o k Γ a z isnt) (sym e) d
     downwards h (step {x = x} {z = z} l u) d = let hz = head_kind x z is l in along →⊢' x z h hz l (downwards hz u d)
 

@@ -1,9 +1,9 @@
 -- The numbers of a proof: how many its steps and its branches make, and which measure bounds which.
-use Prim.Native.Nat.{ℕ, suc, ◌+◌, ◌-◌, ◌*◌, ◌≤◌, ◌<◌}
+use Prim.Native.Nat.{ℕ, suc, ◌+◌, ◌*◌, ◌≤◌, ◌<◌}
 use mathlib.Core.Path.{◌≡◌, refl, ap, ◌∙◌}
-use mathlib.Core.List.{List, ◌++◌}
+use mathlib.Core.List.{List}
 use native.Mathlib.Omega.{arith}
-use lib.ListN.{length, drop, length-append, length-drop}
+use lib.ListN.{length, length-append, length-drop}
 use Rattle.theory.specs.Words.{Sign}
 use Rattle.theory.specs.Sequents.{Proof, ax, right, left}
 use Rattle.theory.specs.ProofFiles.{proof_size, proof_depth, left_steps, proof_steps, proof_branches, proof_file, list_limit, Faulty, deep, broken, in_right, in_left, in_main, FaultAt}

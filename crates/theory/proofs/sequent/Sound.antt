@@ -2,12 +2,12 @@
 use Prim.Native.Nat.{ℕ, ◌+◌, ◌<◌, ◌≤◌}
 use mathlib.Core.Path.{◌≡◌, refl, sym, subst, ap, ◌∙◌}
 use mathlib.Core.List.Memᴰ
-use mathlib.Core.List.{List, [], ◌∷◌, Memᴰ}
+use mathlib.Core.List.{List, ◌∷◌, Memᴰ}
 use mathlib.Core.Logic.{◌⊎◌, inl, inr, ⊎_elim}
 use native.Mathlib.Omega.{arith}
 use native.Mathlib.Decide.{dec_lt}
 use Rattle.theory.specs.Words.{Sign, is, isnt, sign_number, word, tail_of, head_of, parity, node_limit}
-use Rattle.theory.specs.Nets.{Statements, Kind, Links, LegalWords, Net}
+use Rattle.theory.specs.Nets.{Statements, Kind, Links, Net}
 use Rattle.theory.specs.Support.{Supported}
 use Rattle.theory.proofs.Legal.{legal_links}
 use Rattle.theory.proofs.completion.Ascending.{tail_word, head_word, parity_word}

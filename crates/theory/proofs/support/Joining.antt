@@ -57,11 +57,11 @@ module _ (o k : ℕ) where
     not_a : (y : ℕ) → Kind o k y → y ≡ a → ⊥
     not_a y h e = omega arith
 
-    up_old : {x y : ℕ} → Up (Join L M) y x → (x ≡ a → ⊥) → Up L y x
+    up_old : {y x : ℕ} → Up (Join L M) y x → (x ≡ a → ⊥) → Up L y x
     up_old (here e) n = here e
     up_old (step {x = x} {z = z} l u) n = let l' = old x z is n l in step l' (up_old u (not_a z (hL.head x z is l')))
 
-    up_end : {x y : ℕ} → Up L y x → (x ≡ a → ⊥) → y ≡ a → ⊥
+    up_end : {y x : ℕ} → Up L y x → (x ≡ a → ⊥) → y ≡ a → ⊥
     up_end (here e) n f = n (e ∙ f)
     up_end (step {x = x} {z = z} l u) n f = up_end u (not_a z (hL.head x z is l)) f
 

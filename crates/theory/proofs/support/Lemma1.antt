@@ -1,5 +1,5 @@
 -- Lemma 1, with the object cases right: a statement is supported exactly if a path shows it.
-use Prim.Native.Nat.{ℕ, ◌+◌}
+use Prim.Native.Nat.{ℕ}
 use mathlib.Core.Path.{◌≡◌, refl, subst, sym}
 use mathlib.Core.List.{List, [], ◌∷◌, ◌++◌}
 use mathlib.Core.Logic.{inl, inr, ◌↔◌}
@@ -23,7 +23,7 @@ module _ (o k : ℕ) (L : Statements) where
   second_up y [] f = here refl
   second_up y (z ∷ zs) f = trans (second_up z zs f.1) (one_up z y f.0)
 
-  up_first : {x y : ℕ} → Up L y x → (xs : List ℕ) × First o k L x xs × (last_of x xs ≡ y)
+  up_first : {y x : ℕ} → Up L y x → (xs : List ℕ) × First o k L x xs × (last_of x xs ≡ y)
   up_first (here e) = ([], tt, e)
   up_first (step {z = z} l u) = let (xs, f, e) = up_first u in (z ∷ xs, (inl l, f), e)
 
@@ -32,7 +32,7 @@ module _ (o k : ℕ) (L : Statements) where
   snoc y [] z f l = ((inl l, tt), refl)
   snoc y (w ∷ zs) z f l = let r = snoc w zs z f.1 l in ((f.0, r.0), r.1)
 
-  up_second : {x y : ℕ} → Up L y x → (zs : List ℕ) × Second o k L y zs × (last_of y zs ≡ x)
+  up_second : {y x : ℕ} → Up L y x → (zs : List ℕ) × Second o k L y zs × (last_of y zs ≡ x)
   up_second (here e) = ([], tt, sym e)
   up_second {y} (step {x = x} {z = z} l u) =
       let (zs, f, e) = up_second u in

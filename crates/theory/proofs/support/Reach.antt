@@ -29,7 +29,7 @@ abbrev pub Reached : ℕ → ℕ → Statements → Statements
 Reached o k L x y is = Up L y x × Kind o k y
 Reached o k L x y isnt = Apart L x y × Kind o k y
 
-pub trans : {L : Statements} {x y z : ℕ} → Up L y x → Up L z y → Up L z x
+pub trans : {L : Statements} {y x z : ℕ} → Up L y x → Up L z y → Up L z x
 trans {L} {z} (here e) v = subst (λ (w : ℕ). Up L z w) (sym e) v
 trans (step l u) v = step l (trans u v)
 
@@ -48,7 +48,7 @@ module _ (o k : ℕ) (L : Statements) (legal : Legal o k L) where
   after_link h (inr g) = g
 
   -- what is reached is the start or a kind
-  pub ends_in : {x y : ℕ} → Up L y x → (x ≡ y) ⊎ Kind o k y
+  pub ends_in : {y x : ℕ} → Up L y x → (x ≡ y) ⊎ Kind o k y
   ends_in (here e) = inl e
   ends_in (step {x = x} {z = z} l u) = inr (after_link (legal.head x z is l) (ends_in u))
 
@@ -69,7 +69,7 @@ module _ (o k : ℕ) (L : Statements) (legal : Legal o k L) where
   pub supported_reached : {x y : ℕ} {s : Sign} → Supported o k L x y s → Reached o k L x y s
   supported_reached = smallest o k L (Reached o k L) reached_closed
 
-  up_supported : {x y : ℕ} → Up L y x → Kind o k y → Supported o k L x y is
+  up_supported : {y x : ℕ} → Up L y x → Kind o k y → Supported o k L x y is
   up_supported {y} (here e) h = subst (λ (w : ℕ). Supported o k L w y is) (sym e) (r1 h)
   up_supported (step {x = x} {z = z} l u) h = r2 (legal.head x z is l) h (linked l) (up_supported u h)
 
