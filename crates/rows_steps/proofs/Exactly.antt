@@ -1,30 +1,28 @@
 -- The steps leave rows that hold exactly what the net supports, whatever the rows held before.
 use Prim.Native.Nat.{ℕ, ◌+◌, ◌-◌, ◌*◌, ◌/◌, ◌%◌, ◌^◌, ◌≤◌, ◌<◌}
 use mathlib.Core.Path.{◌≡◌, refl, sym, ap, ◌∙◌, subst}
-use mathlib.Core.Bool.{true, ◌&&◌}
+use mathlib.Core.Bool.{true}
 use mathlib.Core.List.{List, ◌++◌}
-use mathlib.Core.Logic.{◌⊎◌, inl, inr, ◌↔◌, ⊎_elim}
+use mathlib.Core.Logic.{◌⊎◌, inl, inr, ⊎_elim}
 use native.Mathlib.Omega.{arith}
 use native.Mathlib.Decide.{dec_lt}
-use borrow.Author.Tests.{leb-true, ltb-true, le-leb, lt-ltb}
-use lib.Dec.{leb, ltb, lit<}
+use lib.Dec.{lit<}
 use lib.ListN.{length, get_or, drop, replicate, length-append, length-drop, length-replicate, get_or-replicate, get_or-append}
 use lib.Arith.{digits_lt}
 use lib.Seq.{get_or-append-add, get_or-drop}
-use Rattle.theory_laws.proofs.Booleans.{contradiction, same_test, and_left, and_right, and_both}
+use Rattle.theory_laws.proofs.Booleans.{contradiction}
 use Rattle.theory.specs.Words.{Sign, is, isnt, tail_of, head_of}
 use Rattle.theory.specs.Nets.{Kind, Statements, Links, Net}
 use Rattle.theory.specs.Support.{Supported, Closed, linked, r1, r2, r3, r4, r5}
 use Rattle.theory.specs.Paths.{Crossing}
-use Rattle.theory.specs.Marks.{has, marker_of}
-use Rattle.theory.specs.Completion.{full_marks}
+use Rattle.theory.specs.Marks.{has}
 use Rattle.theory.proofs.Inside.{legal_inside}
 use Rattle.theory.proofs.Legal.{Legal, legal_links}
 use Rattle.theory.proofs.support.Smallest.{smallest}
 use Rattle.theory.proofs.support.Reach.{Up, ends_in, supported_reached, reached_supported}
 use Rattle.theory.proofs.rows.Exactly.{wide_enough, head_kind, exact_rows}
 use Rattle.theory_laws.proofs.Bits.{bit_zero}
-use Rattle.theory.specs.Rows.{width, Wide, bit_at, Exact, answers, rows_of, supported_rows}
+use Rattle.theory.specs.Rows.{width, Wide, bit_at, Exact, supported_rows}
 use Rattle.rows_steps.specs.Steps.{kind_bits, is_links, isnt_links, gather, blank_rows, yes_rows, no_rows}
 use Rattle.rows_steps.proofs.Grown.{Grown, grown_then}
 use Rattle.rows_steps.proofs.Sound.{Sound, still}

@@ -1,7 +1,7 @@
 -- No passed up to what is (3.4): a row gains the rows of all nodes in its yes row, and nothing else, though rows change on the way.
 use Prim.Native.Nat.{ℕ, zero, suc, ◌+◌, ◌*◌, ◌/◌, ◌%◌, ◌≤◌, ◌<◌}
-use mathlib.Core.Path.{◌≡◌, refl, sym, ap, ◌∙◌}
-use mathlib.Core.Bool.{Bool, true, ◌||◌}
+use mathlib.Core.Path.{◌≡◌, refl, sym, ◌∙◌}
+use mathlib.Core.Bool.{true}
 use mathlib.Core.List.{List, [], ◌∷◌, Memᴰ}
 use native.Mathlib.Omega.{arith}
 use native.Mathlib.Decide.{ℕ_discrete}
@@ -39,6 +39,7 @@ module _ (w base : ℕ) (l : List ℕ) where
 
     nodes_gained : (ts r : List ℕ) → w ≤ length r → (t : ℕ) → Memᴰ t ts → bit_at l ((base + t) * w) y ≡ true → bit_at (gather_nodes w base ts l r) 0 y ≡ true
     unfolding gather_nodes
+    nodes_gained [] r h t m b = elim m [ ]
     nodes_gained (u ∷ ts) r h t (mathlib.Core.List.Memᴰ.head e) b =
         let c : bit_at l ((base + u) * w) y ≡ true = rw e at b in
         nodes_set ts (gain 0 ((base + u) * w) w l r) (omega (arith, gain_long 0 ((base + u) * w) w l r))

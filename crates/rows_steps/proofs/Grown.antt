@@ -67,9 +67,9 @@ put_grown z a y l h g = grown_one grown_none (a + y / 64) (2 ^ (y % 64)) h (omeg
 pub grown_gain : {z : ℕ} {l₀ l : List ℕ} → Grown z l₀ l → (a b j : ℕ) (r : List ℕ) → (Wide l₀ → Wide r) → a + j ≤ z → z ≤ length l₀ → Grown z l₀ (gain a b j r l)
 unfolding gain
 grown_gain t a b zero r f h g = t
-grown_gain {l} t a b (suc j) r f h g =
+grown_gain {z} {l₀} {l} t a b (suc j) r f h g =
     let one = grown_one t a (get_or r b 0) (omega arith) (omega (arith, t.long)) (λ d. f d b) in
-    grown_gain one (suc a) (suc b) j r f (omega arith) g
+    grown_gain {z = z} {l₀ = l₀} {l = set l a (bit_or (get_or l a 0) (get_or r b 0))} one (suc a) (suc b) j r f (omega arith) g
 
 -- They are words of 64 bits, if both lists have such.
 pub gain_wide : (a b j : ℕ) (r l : List ℕ) → a + j ≤ length l → Wide r → Wide l → Wide (gain a b j r l)

@@ -77,6 +77,7 @@ module _ (n w : ℕ) (few : n ≤ w * 64) where
   pub is_links_set : (vs : List ℕ) (l : List ℕ) → Inside n vs → n * w ≤ length l
       → (v : ℕ) → Memᴰ v vs → parity v ≡ 0 → bit_at (is_links w vs l) (tail_of v * w) (head_of v) ≡ true
   unfolding is_links
+  is_links_set [] l i r v m q = elim m [ ]
   is_links_set (u ∷ vs) l i r v (Memᴰ.head e) q =
       let g = is_grown u l (inside_first i) r in
       let d = inside_first i in
@@ -165,6 +166,7 @@ module _ (n w : ℕ) (few : n ≤ w * 64) where
     pub isnt_links_set : (vs : List ℕ) (l : List ℕ) → Inside n vs → n * w ≤ length l
         → (v : ℕ) → Memᴰ v vs → parity v ≡ 1 → bit_at (isnt_links o w vs l) (tail_of v * w) (head_of v) ≡ true
     unfolding isnt_links
+    isnt_links_set [] l i r v m q = elim m [ ]
     isnt_links_set (u ∷ vs) l i r v (Memᴰ.head e) q =
         let g = isnt_grown u l (inside_first i) r in
         rw e (still (isnt_links_grown vs (isnt_link o w u l) (inside_rest i) (omega (arith, g.long))) (tail_of u * w) (head_of u) (isnt_set u l (inside_first i) r (ap parity (sym e) ∙ q)))
@@ -175,6 +177,7 @@ module _ (n w : ℕ) (few : n ≤ w * 64) where
     pub isnt_links_set_back : (vs : List ℕ) (l : List ℕ) → Inside n vs → n * w ≤ length l
         → (v : ℕ) → Memᴰ v vs → parity v ≡ 1 → o ≤ tail_of v → bit_at (isnt_links o w vs l) (head_of v * w) (tail_of v) ≡ true
     unfolding isnt_links
+    isnt_links_set_back [] l i r v m q h = elim m [ ]
     isnt_links_set_back (u ∷ vs) l i r v (Memᴰ.head e) q h =
         let g = isnt_grown u l (inside_first i) r in
         rw e
