@@ -1,7 +1,7 @@
 -- A list is accepted exactly if it is a proof of the statement within the limit; then the statement is supported.
-use Prim.Native.Nat.{ℕ, zero, suc, ◌+◌, ◌-◌, ◌*◌, ◌≤◌, ◌<◌}
+use Prim.Native.Nat.{ℕ, suc, ◌+◌, ◌-◌, ◌*◌, ◌≤◌, ◌<◌}
 use mathlib.Core.Path.{◌≡◌, refl, sym, subst, ap, ◌∙◌}
-use mathlib.Core.Bool.{Bool, true, false, cond, ◌&&◌, ◌||◌}
+use mathlib.Core.Bool.{true, false, ◌&&◌, ◌||◌}
 use mathlib.Core.List.{List, [], ◌∷◌, ◌++◌, append-nil}
 use mathlib.Core.Logic.{◌↔◌}
 use native.Mathlib.Omega.{arith}
@@ -9,13 +9,13 @@ use lib.Dec.{eqb, ltb}
 use lib.ListN.{length, take, drop, take-append-drop, drop_of_length-le, length-append}
 use lib.Seq.{length-take-le, drop-append_seam, take-append_seam}
 use borrow.Author.Tests.{eqb-true, eqb-false, eq-eqb, ne_eqb, ltb-false, le-ltb}
-use Rattle.theory_laws.proofs.Booleans.{and_left, and_right, and_both, or_none_left, or_none_right}
+use Rattle.theory_laws.proofs.Booleans.{and_left, and_right, or_none_left, or_none_right}
 use Rattle.theory.specs.Words.{Sign, word}
 use Rattle.theory.specs.Nets.{Kind, Links, Net}
 use Rattle.theory.specs.Support.{Supported}
 use Rattle.theory.specs.Sequents.{Proof}
 use Rattle.theory.specs.ProofFiles.{Faulty, FaultAt, proof_size, proof_depth, left_steps, proof_steps, proof_branches, proof_file, depth_limit, list_limit, Proves}
-use Rattle.proof_form.specs.Checker.{holds, fits, sequent, closing, check_branches, check_proof}
+use Rattle.proof_form.specs.Checker.{holds, fits, sequent, closing, check_proof}
 use Rattle.proof_form.specs.declared.Walked.{Walked}
 use Rattle.proof_form.specs.declared.Walked.TheVariants.{Upto, Fault, Cut}
 use Rattle.proof_form.specs.declared.Found.{Found}

@@ -1,23 +1,20 @@
 -- The walk comes over a proof without a fault, and finds that its branches fit; over steps of which one is at fault it comes to that one.
-use Prim.Native.Nat.{ℕ, zero, suc, ◌+◌, ◌-◌, ◌*◌, ◌/◌, ◌≤◌, ◌<◌, max}
-use mathlib.Core.Path.{◌≡◌, refl, sym, subst, ap, ◌∙◌}
-use mathlib.Core.Bool.{Bool, true, false, cond, ◌&&◌}
-use mathlib.Core.List.{List, [], ◌∷◌, ◌++◌, append_assoc, Memᴰ}
+use Prim.Native.Nat.{ℕ, zero, suc, ◌+◌, ◌-◌, ◌*◌, ◌/◌, ◌≤◌, ◌<◌}
+use mathlib.Core.Path.{◌≡◌, refl, sym, ap, ◌∙◌}
+use mathlib.Core.Bool.{Bool, true, false, ◌&&◌}
+use mathlib.Core.List.{List, [], ◌∷◌, ◌++◌, append_assoc}
 use native.Mathlib.Omega.{arith}
 use lib.Dec.{eqb, ltb, leb}
-use lib.ListN.{length, get_or, take, drop, length-append, length-drop}
+use lib.ListN.{length, get_or, take, drop, length-drop}
 use lib.Seq.{length-take-le, get_or-take, get_or-drop, drop-drop, drop-append_seam}
 use borrow.Author.Tests.{eq-eqb, lt-ltb, lt-leb}
 use Rattle.theory_laws.proofs.Booleans.{and_both}
 use Rattle.theory.specs.Words.{Sign, is, sign_number, word}
 use Rattle.theory.specs.Nets.{Kind, Net}
-use Rattle.theory.specs.Sequents.{Individual, Fresh, LeftRule, uses, asks_kind, asks_sign, gives_kind, gives_sign, Proof, ax, right, left}
+use Rattle.theory.specs.Sequents.{uses, gives_kind, gives_sign, Proof, ax, right, left}
 use Rattle.theory.specs.ProofFiles.{rule_of, proof_size, proof_depth, left_steps, proof_steps, proof_branches, Faulty, deep, broken, in_right, in_left, in_main}
 use Rattle.proof_form.specs.Checker.{asks, holds, fits, main_premise, premises, sequent}
-use Rattle.proof_form.specs.declared.Asks.{Asks}
-use Rattle.proof_form.specs.declared.Asks.TheVariants.{Broken, Nothing, One, Two}
-use Rattle.proof_form.specs.declared.Walked.{Walked}
-use Rattle.proof_form.specs.declared.Walked.TheVariants.{Upto, Fault, Cut}
+use Rattle.proof_form.specs.declared.Walked.TheVariants.{Upto, Fault}
 use Rattle.theory.proofs.sequent.Sound.{asks_kind_lem}
 use Rattle.theory.proofs.sequent.Measures.{length_steps, length_branches, depth_one}
 use Rattle.proof_form.proofs.Asking.{asks_nothing, asks_one, asks_two, asks_broken}
@@ -78,8 +75,8 @@ module _ (o k : ℕ) (ws : List ℕ) (net : Net o k ws) (l : List ℕ) (b : ℕ)
   pub walks : {Γ : List ℕ} {x y : ℕ} {s : Sign} (p : Proof o k Γ x y s) (A : List ℕ) → Γ ≡ A ++ ws → Kind o k y → (d i j : ℕ) (t : Bool) (u : List ℕ) → proof_depth p ≤ d
       → drop (b + 3 * i) l ≡ proof_steps p ++ u → Walks p A d i j t
   unfolding proof_size proof_depth left_steps proof_steps proof_branches premises main_premise
-  walks p A e h zero i j t u hd hs = let z = depth_one p in absurd (omega arith)
-  walks (ax {a = a} {p = p} {s = s} n m) A e h (suc d) i j t u hd hs =
+  walks {Γ = Γ} p A e h zero i j t u hd hs = let z = depth_one p in absurd (omega arith)
+  walks {Γ = Γ} (ax {a = a} {p = p} {s = s} n m) A e h (suc d) i j t u hd hs =
       let n1 : i + 1 ≡ suc i = omega arith in
       let n2 : j + 0 ≡ j = omega arith in
       record {
@@ -87,18 +84,18 @@ module _ (o k : ℕ) (ws : List ℕ) (net : Net o k ws) (l : List ℕ) (b : ℕ)
         walked = step_walked d A (word a p s) i j t (sign_number s) a (word a p s) u hs ∙ rw (asks_nothing o k ws net A a p s h n (rw e at m), n1, n2);
         kept = λ v hb. refl;
       }
-  walks (right {p = p} {q = q} {s = s} hp f c) A e h (suc d) i j t u hd hs =
+  walks {Γ = Γ} (right {p = p} {q = q} {s = s} hp f c) A e h (suc d) i j t u hd hs =
       let g = word p q s in
       let after : drop (b + 3 * suc i) l ≡ proof_steps c ++ u = past l ((2 + sign_number s) ∷ (o + k) ∷ g ∷ []) (proof_steps c ++ u) (b + 3 * i) (b + 3 * suc i) hs (omega arith) in
-      let more : word (o + k) p is ∷ _ ≡ (word (o + k) p is ∷ A) ++ ws = ap (λ z. word (o + k) p is ∷ z) e in
-      let again = walks c (word (o + k) p is ∷ A) more h d (suc i) j t u (omega arith) after in
+      let more : word (o + k) p is ∷ Γ ≡ (word (o + k) p is ∷ A) ++ ws = ap (λ z. word (o + k) p is ∷ z) e in
+      let again = walks {Γ = word (o + k) p is ∷ Γ} c (word (o + k) p is ∷ A) more h d (suc i) j t u (omega arith) after in
       let n : i + suc (proof_size c) ≡ suc i + proof_size c = omega arith in
       record {
         fit = again.fit;
         walked = step_walked d A g i j t (2 + sign_number s) (o + k) g (proof_steps c ++ u) hs ∙ rw (asks_one o k ws net A p q s h hp (rw e at f), n) again.walked;
         kept = again.kept;
       }
-  walks (left {x = x} {y = y} {s = s} r a p q n hp hq m c c') A e h (suc d) i j t u hd hs =
+  walks {Γ = Γ} (left {x = x} {y = y} {s = s} r a p q n hp hq m c c') A e h (suc d) i j t u hd hs =
       let w = word p q (uses r) in
       let w' = word a (gives_kind r p q) (gives_sign r) in
       let e1 = suc i + proof_size c in
@@ -107,9 +104,9 @@ module _ (o k : ℕ) (ws : List ℕ) (net : Net o k ws) (l : List ℕ) (b : ℕ)
       let s2 : drop (b + 3 * suc i) l ≡ proof_steps c ++ (proof_steps c' ++ u) = s1 ∙ append_assoc (proof_steps c) (proof_steps c') u in
       let ls = length_steps c in
       let s3 : drop (b + 3 * e1) l ≡ proof_steps c' ++ u = past l (proof_steps c) (proof_steps c' ++ u) (b + 3 * suc i) (b + 3 * e1) s2 (omega arith) in
-      let first = walks c A e (asks_kind_lem o k r hp hq) d (suc i) (suc j) t (proof_steps c' ++ u) (omega arith) s2 in
-      let more : w' ∷ _ ≡ (w' ∷ A) ++ ws = ap (λ z. w' ∷ z) e in
-      let second = walks c' (w' ∷ A) more h d e1 j1 (first.fit && fits l b j (suc i) e1) u (omega arith) s3 in
+      let first = walks {Γ = Γ} c A e (asks_kind_lem o k r hp hq) d (suc i) (suc j) t (proof_steps c' ++ u) (omega arith) s2 in
+      let more : w' ∷ Γ ≡ (w' ∷ A) ++ ws = ap (λ z. w' ∷ z) e in
+      let second = walks {Γ = w' ∷ Γ} c' (w' ∷ A) more h d e1 j1 (first.fit && fits l b j (suc i) e1) u (omega arith) s3 in
       let n1 : i + suc (proof_size c + proof_size c') ≡ e1 + proof_size c' = omega arith in
       let n2 : j + suc (left_steps c + left_steps c') ≡ j1 + left_steps c' = omega arith in
       let bs = proof_branches b (suc i) c in

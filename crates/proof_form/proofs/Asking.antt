@@ -1,21 +1,21 @@
 -- What a step asks for is what its rule asks for, and a step is broken exactly if it is by no rule.
 use Prim.Native.Nat.{ℕ, ◌+◌, ◌≤◌, ◌<◌}
 use mathlib.Core.Path.{◌≡◌, refl, sym, ap, ◌∙◌}
-use mathlib.Core.Bool.{Bool, true, false, cond, not, ◌&&◌, ◌||◌}
+use mathlib.Core.Bool.{Bool, true, false, cond}
 use mathlib.Core.List.{List, ◌++◌, Memᴰ}
-use mathlib.Core.Logic.{◌⊎◌, inl, inr, ⊎_elim}
+use mathlib.Core.Logic.{inl, inr}
 use native.Mathlib.Omega.{arith}
-use lib.Dec.{eqb, ltb, leb}
-use borrow.Author.Tests.{eqb-true, eqb-false, eq-eqb, ne_eqb, ltb-true, ltb-false, lt-ltb, le-ltb}
+use lib.Dec.{eqb, ltb}
+use borrow.Author.Tests.{eqb-true, eqb-false, ltb-false, lt-ltb, le-ltb}
 use Rattle.theory_laws.proofs.Booleans.{contradiction}
 use Rattle.theory_laws.specs.Deciding.{Decides}
 use Rattle.theory_laws.proofs.Deciding.{decides_equal, decides_below, decides_both}
-use Rattle.theory.specs.Words.{Sign, is, isnt, sign_number, word, tail_of, head_of, parity, sign_at, sign_of, node_limit}
-use Rattle.theory.specs.Nets.{Kind, LegalWords, Net}
+use Rattle.theory.specs.Words.{Sign, is, isnt, sign_number, word, tail_of, head_of, parity, sign_at, sign_of}
+use Rattle.theory.specs.Nets.{Kind, Net}
 use Rattle.theory.proofs.completion.Ascending.{tail_word, head_word, parity_word, sign_word, word_of_parts, sign_at_number}
 use Rattle.theory.specs.Sequents.{Individual, Fresh, LeftRule, →⊢, →⊢', ↛⊢, ↛⊢', uses, asks_kind, asks_sign, gives_kind, gives_sign}
 use Rattle.theory.specs.ProofFiles.{rule_of, AxiomStep, RightStep, LeftStep, ByRule}
-use Rattle.proof_form.specs.Checker.{individual, kind, about, given, rule_at, by_axiom, by_right, by_left, two_of, asks}
+use Rattle.proof_form.specs.Checker.{individual, kind, rule_at, by_axiom, by_right, by_left, two_of, asks}
 use Rattle.proof_form.specs.declared.Asks.{Asks}
 use Rattle.proof_form.specs.declared.Asks.TheVariants.{Broken, Nothing, One, Two}
 use Rattle.proof_form.proofs.Tests.{by_test, decides_individual, decides_kind, decides_given, decides_fresh}

@@ -1,26 +1,26 @@
 -- Lemmas 9 to 12: a path without repeats gives a proof, whose list is ours, and whose depth and size are as stated.
-use Prim.Native.Nat.{ℕ, zero, suc, ◌+◌, ◌-◌, ◌*◌, ◌≤◌, ◌<◌}
-use mathlib.Core.Path.{◌≡◌, refl, sym, subst, ap, ◌∙◌}
-use mathlib.Core.Bool.{Bool, true, false, cond}
+use Prim.Native.Nat.{ℕ, suc, ◌+◌, ◌*◌, ◌<◌}
+use mathlib.Core.Path.{◌≡◌, refl, sym, ap, ◌∙◌}
+use mathlib.Core.Bool.{true, false}
 use mathlib.Core.List.{List, [], ◌∷◌, ◌++◌, Memᴰ}
-use mathlib.Core.Logic.{◌⊎◌, inl, inr, ⊎_elim}
+use mathlib.Core.Logic.{inl, inr}
 use native.Mathlib.Omega.{arith}
 use native.Mathlib.Decide.{dec_lt}
 use lib.Dec.{ltb}
 use lib.ListN.{length, length-append}
 use borrow.Author.Tests.{lt-ltb, le-ltb}
 use Rattle.theory_laws.proofs.Booleans.{contradiction}
-use Rattle.theory.specs.Words.{Sign, is, isnt, sign_number, word, tail_of, sign_at, sign_of}
+use Rattle.theory.specs.Words.{Sign, is, isnt, word}
 use Rattle.theory.specs.Nets.{Kind, Links, Net}
 use Rattle.theory.specs.Paths.{last_of, Crossing}
 use Rattle.theory.specs.Reasons.{FirstLinks, SecondLinks, Strict}
 use Rattle.theory.proofs.sequent.Complete.{link_listed, head_kind, fresh_in_net}
-use Rattle.theory.specs.Sequents.{Individual, Fresh, LeftRule, →⊢, →⊢', ↛⊢, ↛⊢', Proof, right}
+use Rattle.theory.specs.Sequents.{Individual, ↛⊢, ↛⊢', Proof, right}
 use Rattle.theory.specs.ProofFiles.{proof_size, proof_depth, left_steps, proof_steps, proof_branches, proof_file}
 use Rattle.proof_form.specs.Checker.{stands_in}
 use Rattle.proof_form.specs.Ours.{Hop, hop, climb, fall, cross, over_turn, hops, object_start, object_hops, chain_file, our_file, our_depth, our_size}
 use Rattle.proof_form.proofs.Tests.{by_test, decides_stands}
-use Rattle.proof_form.proofs.Chains.{Goes, to_kind, to_sign, HopsLead, Has, chain}
+use Rattle.proof_form.proofs.Chains.{Goes, to_kind, to_sign, HopsLead, chain}
 
 length_climb : (u : ℕ) (xs : List ℕ) → length (climb u xs) ≡ length xs
 unfolding climb

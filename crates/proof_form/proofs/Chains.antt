@@ -1,14 +1,14 @@
 -- A proof extended link by link: its size, depth, steps and branches.
-use Prim.Native.Nat.{ℕ, zero, suc, ◌+◌, ◌*◌, ◌≤◌, ◌<◌, max}
-use mathlib.Core.Path.{◌≡◌, refl, sym, subst, ap, ◌∙◌}
+use Prim.Native.Nat.{ℕ, zero, suc, ◌+◌, ◌*◌}
+use mathlib.Core.Path.{◌≡◌, refl, sym, ◌∙◌}
 use mathlib.Core.List.{List, [], ◌∷◌, ◌++◌, append_assoc, append-nil, Memᴰ}
 use native.Mathlib.Omega.{arith}
 use lib.ListN.{length}
-use Rattle.theory.specs.Words.{Sign, is, isnt, sign_number, word, parity}
+use Rattle.theory.specs.Words.{Sign, word}
 use Rattle.theory.specs.Nets.{Kind}
 use Rattle.theory.proofs.completion.Ascending.{parity_word}
-use Rattle.theory.specs.Sequents.{Individual, LeftRule, uses, asks_kind, asks_sign, gives_kind, gives_sign, Proof, ax, right, left}
-use Rattle.theory.specs.ProofFiles.{rule_of, proof_size, proof_depth, left_steps, proof_steps, proof_branches}
+use Rattle.theory.specs.Sequents.{Individual, uses, asks_kind, asks_sign, gives_kind, gives_sign, Proof, ax, left}
+use Rattle.theory.specs.ProofFiles.{proof_size, proof_depth, left_steps, proof_steps, proof_branches}
 use Rattle.theory.proofs.sequent.Measures.{depth_one}
 use Rattle.proof_form.specs.Ours.{Hop, use_step, axiom_step, close_step, use_steps, close_steps, nested}
 

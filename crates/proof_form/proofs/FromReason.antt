@@ -1,18 +1,16 @@
 -- The list that is computed from the reason's list is ours.
-use Prim.Native.Nat.{ℕ, zero, suc, ◌+◌, ◌-◌, ◌≤◌, ◌<◌}
+use Prim.Native.Nat.{ℕ, suc, ◌+◌, ◌-◌, ◌≤◌, ◌<◌}
 use mathlib.Core.Path.{◌≡◌, refl, sym, ap, ◌∙◌}
-use mathlib.Core.Bool.{Bool, true, false, cond}
 use mathlib.Core.List.{List, [], ◌∷◌, ◌++◌}
 use native.Mathlib.Omega.{arith}
-use lib.Dec.{eqb, ltb}
+use lib.Dec.{ltb}
 use lib.ListN.{length, get_or, drop, length-append}
 use borrow.Author.Tests.{eq-eqb, ne_eqb, ltb-true, lt-ltb, le-ltb}
-use Rattle.theory.specs.Words.{Sign, is, isnt, sign_number, word}
-use Rattle.theory.specs.Paths.{last_of}
+use Rattle.theory.specs.Words.{Sign}
 use Rattle.theory.specs.Reasons.{written}
-use Rattle.theory.specs.Sequents.{→⊢, →⊢'}
-use Rattle.proof_form.specs.Ours.{Hop, hop, climb, fall, cross, over_turn, hops, object_start, object_hops, chain_file, our_file}
-use Rattle.proof_form.specs.FromReason.{hop_of, hop_at, hops_from, start_at, from_reason}
+use Rattle.theory.specs.Sequents.{→⊢}
+use Rattle.proof_form.specs.Ours.{Hop, hop, climb, fall, over_turn, hops, object_start, object_hops, our_file}
+use Rattle.proof_form.specs.FromReason.{hop_of, hops_from, start_at, from_reason}
 use Rattle.proof_form.proofs.Accepting.{past, first_at, second_at}
 use Rattle.proof_form.proofs.Building.{length_hops, length_fall}
 use Rattle.proof_form.proofs.Tests.{by_test}

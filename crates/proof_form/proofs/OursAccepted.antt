@@ -8,14 +8,14 @@ use lib.Dec.{ltb}
 use lib.ListN.{length}
 use Rattle.theory.specs.Words.{Sign, word}
 use Rattle.theory.specs.Nets.{Kind, Links, Net}
-use Rattle.theory.specs.Reasons.{Strict, Shortest}
-use Rattle.theory.specs.ProofFiles.{proof_file, proof_size, left_steps, depth_limit, list_limit, Proves}
+use Rattle.theory.specs.Reasons.{Strict}
+use Rattle.theory.specs.ProofFiles.{proof_file, depth_limit, list_limit, Proves}
 use Rattle.proof_form.specs.Checker.{check_proof}
 use Rattle.proof_form.specs.Ours.{our_file, our_depth, our_size}
 use Rattle.proof_form.specs.declared.Found.TheVariants.{Right}
 use Rattle.theory.proofs.sequent.Measures.{length_file, left_steps_size}
 use Rattle.proof_form.proofs.Accepted.{proves_accepted}
-use Rattle.proof_form.proofs.Building.{Ours, ours}
+use Rattle.proof_form.proofs.Building.{ours}
 
 -- Ours has few steps where it fits the depth.
 size_limit : (o x n : ℕ) → our_depth o x n ≤ depth_limit → our_size o x n ≤ 512

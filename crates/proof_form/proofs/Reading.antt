@@ -1,8 +1,8 @@
 -- What the walk has come over without a fault is a proof, the contents that fitted are its branches, and a fault is the first.
-use Prim.Native.Nat.{ℕ, zero, suc, ◌+◌, ◌-◌, ◌*◌, ◌/◌, ◌≤◌, ◌<◌, max}
-use mathlib.Core.Path.{◌≡◌, refl, sym, subst, ap, ◌∙◌}
-use mathlib.Core.Bool.{Bool, true, false, cond, ◌&&◌}
-use mathlib.Core.List.{List, [], ◌∷◌, ◌++◌, append_assoc}
+use Prim.Native.Nat.{ℕ, zero, suc, ◌+◌, ◌-◌, ◌*◌, ◌/◌, ◌≤◌, ◌<◌}
+use mathlib.Core.Path.{◌≡◌, refl, sym, ap, ◌∙◌}
+use mathlib.Core.Bool.{Bool, true, ◌&&◌}
+use mathlib.Core.List.{List, ◌∷◌, ◌++◌, append_assoc}
 use native.Mathlib.Omega.{arith}
 use lib.Dec.{eqb, ltb, leb}
 use lib.ListN.{length, get_or, take, drop}
@@ -11,7 +11,7 @@ use borrow.Author.Tests.{eqb-true, ltb-true, leb-false}
 use Rattle.theory_laws.proofs.Booleans.{and_left, and_right}
 use Rattle.theory.specs.Words.{Sign, is, word}
 use Rattle.theory.specs.Nets.{Kind, Net}
-use Rattle.theory.specs.Sequents.{Individual, LeftRule, asks_kind, asks_sign, gives_kind, gives_sign, Proof, ax, right, left}
+use Rattle.theory.specs.Sequents.{asks_kind, asks_sign, gives_kind, gives_sign, Proof, ax, right, left}
 use Rattle.theory.specs.ProofFiles.{proof_size, proof_depth, left_steps, proof_steps, proof_branches, AxiomStep, RightStep, LeftStep, Faulty, deep, broken, in_right, in_left, in_main}
 use Rattle.proof_form.specs.Checker.{asks, holds, fits, main_premise, premises, sequent}
 use Rattle.proof_form.specs.declared.Asks.{Asks}
@@ -20,7 +20,7 @@ use Rattle.proof_form.specs.declared.Walked.{Walked}
 use Rattle.proof_form.specs.declared.Walked.TheVariants.{Upto, Fault, Cut}
 use Rattle.theory.proofs.sequent.Sound.{asks_kind_lem}
 use Rattle.proof_form.proofs.Tests.{by_test}
-use Rattle.proof_form.proofs.Asking.{ByRight, ByLeft, Asked, asked}
+use Rattle.proof_form.proofs.Asking.{Asked, asked}
 
 -- Three numbers of a list, one after the other.
 pub three : (l : List ℕ) (at : ℕ) → at + 2 < length l → drop at l ≡ get_or l at 0 ∷ get_or l (at + 1) 0 ∷ get_or l (at + 2) 0 ∷ drop (at + 3) l

@@ -4,9 +4,8 @@ use mathlib.Core.Path.{◌≡◌, refl}
 use mathlib.Core.List.{List, [], ◌∷◌}
 use Rattle.theory.specs.Words.{is, isnt, word}
 use Rattle.theory.specs.NetM.{M}
-use Rattle.proof_form.specs.Checker.{check_proof, check_branches, closing, sequent, premises, main_premise, asks, stands_in, about}
+use Rattle.proof_form.specs.Checker.{check_proof, closing, sequent, premises, main_premise, asks, stands_in, about}
 use Rattle.proof_form.specs.Ours.{our_file, chain_file, object_start, object_hops, hops, climb, over_turn, fall, use_steps, close_steps, nested}
-use Rattle.proof_form.specs.declared.Found.{Found}
 use Rattle.proof_form.specs.declared.Found.TheVariants.{Right, At, Nowhere}
 
 -- 0 ↛ 5, by the path 0 2; 3 4 5.

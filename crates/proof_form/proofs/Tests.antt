@@ -1,14 +1,14 @@
 -- What the tests of the check decide.
-use Prim.Native.Nat.{ℕ, ◌+◌, ◌≤◌, ◌<◌}
+use Prim.Native.Nat.{ℕ, ◌+◌}
 use mathlib.Core.Path.{◌≡◌, refl, sym, ap, ◌∙◌}
 use mathlib.Core.Bool.{Bool, true, false, cond, not, ◌&&◌, ◌||◌}
 use mathlib.Core.List.Memᴰ
 use mathlib.Core.List.{List, [], ◌∷◌, ◌++◌, Memᴰ}
-use mathlib.Core.Logic.{◌⊎◌, inl, inr, ⊎_elim}
+use mathlib.Core.Logic.{inl, inr, ⊎_elim}
 use native.Mathlib.Omega.{arith}
 use lib.Dec.{eqb, ltb, leb}
-use borrow.Author.Tests.{eqb-true, eq-eqb, ne_eqb}
-use Rattle.theory_laws.proofs.Booleans.{contradiction, or_none_left, or_none_right, not_so}
+use borrow.Author.Tests.{eq-eqb, ne_eqb}
+use Rattle.theory_laws.proofs.Booleans.{contradiction, or_none_left, or_none_right}
 use Rattle.theory_laws.specs.Deciding.{Decides}
 use Rattle.theory_laws.proofs.Deciding.{decides_equal, decides_below, decides_most, decides_both, decides_either, decides_same}
 use Rattle.theory.specs.Words.{tail_of}

@@ -1,10 +1,9 @@
 -- Laws for a writer that goes link by link: sizes of the parts of our list, and each part as a loop sees it.
-use Prim.Native.Nat.{ℕ, zero, suc, ◌+◌, ◌-◌, ◌*◌, ◌≤◌, ◌<◌}
-use mathlib.Core.Path.{◌≡◌, refl, sym, ap, ◌∙◌}
-use mathlib.Core.List.{List, [], ◌∷◌, ◌++◌, append_assoc, append-nil}
+use Prim.Native.Nat.{ℕ, zero, suc, ◌+◌, ◌-◌, ◌*◌, ◌<◌}
+use mathlib.Core.Path.{◌≡◌, refl, ap, ◌∙◌}
+use mathlib.Core.List.{List, [], ◌∷◌, ◌++◌}
 use native.Mathlib.Omega.{arith}
 use lib.ListN.{length, length-append}
-use Rattle.theory.specs.Words.{word}
 use Rattle.proof_form.specs.Ours.{Hop, use_step, axiom_step, close_step, use_steps, close_steps, nested, chain_file}
 use Rattle.proof_form.specs.FromReason.{hop_at, hops_from}
 

@@ -1,5 +1,5 @@
 -- Our list from the reason's list: sizes of the two parts, then the nodes. This is what the writer computes.
-use Rattle.std.specs.Prelude.{ℕ, zero, suc, ◌+◌, ◌-◌, cond, List, [], ◌∷◌, eqb, ltb, length, get_or}
+use Rattle.std.specs.Prelude.{ℕ, zero, suc, ◌+◌, ◌-◌, cond, List, [], ◌∷◌, eqb, ltb, get_or}
 use Rattle.theory.specs.Words.{Sign, is, isnt, sign_number, word}
 use Rattle.theory.specs.Sequents.{→⊢, →⊢'}
 use Rattle.proof_form.specs.Ours.{Hop, hop, cross, chain_file}
