@@ -1,5 +1,6 @@
 // The marks at the start of a scan: the nodes cleared, and the start marked.
 #![tactic(auto)]
+
 ghost use Rattle.std.specs.Prelude.{◌≡◌, ◌++◌, ◌<◌, ◌≤◌, length, drop};
 ghost use Rattle.theory.specs.Marks.{scan_start};
 ghost use Rattle.scan_start.specs.Starts.{cleared};
