@@ -1,5 +1,6 @@
 // How the marks of one node are written for a pass over the links, and read from it.
 #![tactic(auto)]
+
 ghost use Rattle.std.specs.Prelude.{◌≡◌, ◌+◌, ◌*◌, ◌-◌, ◌<◌};
 ghost use Rattle.std.specs.Int.Bits.{bit_and};
 ghost use Rattle.scan_lanes.specs.Codes.{is_code, is_marks, isnt_code, isnt_marks};
