@@ -1,5 +1,6 @@
 // The supported words about one node, counted and written by its marks.
 #![tactic(auto)]
+
 ghost use Rattle.std.specs.Prelude.{◌≡◌, ◌-◌, ◌<◌, ◌≤◌, length};
 ghost use Rattle.theory_laws.specs.Over.{over};
 ghost use Rattle.theory.specs.Completion.{cell, row};

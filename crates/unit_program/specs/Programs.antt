@@ -1,6 +1,5 @@
 -- Programs of the marker unit ([13]): how a command is written as a word, and the plain commands and loops that a list of words makes.
 use Rattle.std.specs.Prelude.{ℕ, ◌/◌, ◌%◌, cond, ◌&&◌, List, [], ◌∷◌, eqb, ltb, leb}
-use Rattle.theory.specs.declared.Command.{Command}
 use Rattle.unit_program.specs.declared.Instruction.{Instruction}
 use Rattle.unit_program.specs.declared.Instruction.TheVariants.{Clear, Set, Link, Loop, End, Unknown}
 

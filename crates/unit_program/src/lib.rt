@@ -1,5 +1,6 @@
 // The plain type that the statements about the marker unit and its code share.
 #![tactic(auto)]
+
 use theory::Command;
 
 // One command of a program: markers cleared at all nodes, a marker set at a node, a command over the links, a loop, its end. `Unknown` is a word that is
