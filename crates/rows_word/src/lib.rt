@@ -1,5 +1,6 @@
 // Rows of bits in lent words of 64: cleared, a bit set and tested, one row joined to another, two rows compared.
 #![tactic(auto)]
+
 ghost use Rattle.std.specs.Prelude.{◌≡◌, ◌+◌, ◌/◌, ◌<◌, ◌≤◌, length};
 ghost use Rattle.theory.specs.Rows.{bit_at};
 ghost use Rattle.rows_steps.specs.Rows.{put, gain, meets};

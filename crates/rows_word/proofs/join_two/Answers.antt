@@ -1,0 +1,25 @@
+use mathlib.Core.Path.{refl, sym, ◌∙◌}
+use native.Mathlib.Omega.{arith}
+use borrow.Author.Rules.{rules}
+use lib.ListN.{length-set}
+use Rattle.rows_word.proofs.Going.{gain_two_start, gain_two_go, gain_two_end}
+use Rattle.rows_word.proofs.join_two.Goals as goal
+
+-- LEFT (same-length):
+-- same_length : tie.Need-same-length invariant-loop decreases-loop
+-- same_length c = c.before.loop.invariant.1
+
+pub loop-j-init : goal.loop-j-init
+loop-j-init c = (search rules, refl, gain_two_start c.args.a c.args.b c.args.c c.args.w c.args.others.now c.args.rows.now)
+
+pub loop-j-preserved : goal.loop-j-preserved
+loop-j-preserved c = (
+  omega arith,
+  simp length-set c.loop-j.invariant.1,
+  c.loop-j.invariant.2
+      ∙ gain_two_go c.args.a c.args.b c.args.c c.args.w c.args.others.now c.loop-j.rows c.loop-j.j (omega arith) (omega (arith, c.loop-j.invariant.1, c.requires.0)),
+)
+
+pub returns : goal.returns
+returns c =
+    sym (c.loop-j.invariant.2 ∙ gain_two_end c.args.a c.args.b c.args.c c.args.w c.args.others.now c.loop-j.rows c.loop-j.j (omega arith))
