@@ -1,5 +1,6 @@
 // The test of a single word, which may have an origin: it tells why an illegal one is illegal.
 #![tactic(auto)]
+
 ghost use Rattle.std.specs.Prelude.{◌≡◌};
 ghost use Rattle.check_word.specs.Table.{check_word};
 

@@ -1,5 +1,5 @@
 -- A derivation is written in one way: what is read as lines that all have a ground is those lines as they are written.
-use Prim.Native.Nat.{ℕ, zero, suc, ◌*◌, ◌<◌}
+use Prim.Native.Nat.{ℕ, suc, ◌*◌, ◌<◌}
 use mathlib.Core.Path.{◌≡◌, refl, sym, ap, ◌∙◌}
 use mathlib.Core.Bool.{Bool, true, false, cond, ◌&&◌}
 use mathlib.Core.List.{List, [], ◌∷◌}
@@ -8,10 +8,9 @@ use native.Mathlib.Decide.{ℕ_discrete}
 use borrow.Author.Tests.{eqb-true, ne_eqb}
 use lib.Dec.{eqb}
 use lib.ListN.{length, get_or}
-use Rattle.theory.specs.Words.{word, tail_of, head_of, sign_of}
 use Rattle.theory_laws.proofs.Booleans.{and_left, and_right}
 use Rattle.theory.proofs.completion.Ascending.{word_of_parts}
-use Rattle.derivation_lines.specs.Lines.{Line, line, blank, Ground, link, r1, r2, r3, r4, r5, none, Follows, by_link, by_1, by_2, by_3, by_4, by_5, Derivation}
+use Rattle.derivation_lines.specs.Lines.{Line, blank, Ground, link, r1, r3, none, Follows, by_link, by_1, by_2, by_3, by_4, by_5, Derivation}
 use Rattle.derivation_lines.specs.Flat.{rule_of, one_of, two_of, flat, ground_at, lines_of}
 
 -- A ground that asks for zeros has them.
