@@ -1,5 +1,6 @@
 // The words that a sequent may use: those that a set of origins chooses, and those that were added on the branch; the contents of a proof's list.
 #![tactic(auto)]
+
 ghost use Rattle.std.specs.Prelude.{◌≡◌, ℕ, ◌+◌, ◌*◌, ◌≤◌, length};
 ghost use Rattle.theory.specs.Origins.{chosen};
 ghost use Rattle.proof_form.specs.Checker.{stands_in, about, given, holds, fits};
