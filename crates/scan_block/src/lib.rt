@@ -1,5 +1,6 @@
 // The signs of words, a block of eight at a time: what a pass over the words of one sign need not look at.
 #![tactic(auto)]
+
 ghost use Rattle.std.specs.Prelude.{◌≡◌, false, ◌+◌, ◌%◌, ◌≤◌, length};
 ghost use Rattle.scan_block.specs.Signs.{None, NoIsnt};
 
@@ -15,7 +16,7 @@ pub const BLOCK: usize = 8;
 const SPREAD: usize = 512;
 
 // Whether a word says "is not", and of which sign there are few words: blocks without one are many enough that it pays to look for them.
-#[derive(Drop)]
+#[derive(Clone, Copy)]
 pub struct Signs {
     pub isnts: bool,
     pub few_is: bool,

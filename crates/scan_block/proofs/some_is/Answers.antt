@@ -1,0 +1,20 @@
+use Prim.Native.Nat.{◌-◌, ◌%◌, ◌≤◌}
+use mathlib.Core.Path.{◌≡◌}
+use native.Mathlib.Omega.{arith}
+use borrow.Author.Rules.{rules}
+use borrow.Author.Tests.{eqb-false}
+use Rattle.theory.specs.Words.{parity}
+use Rattle.scan_block.specs.Signs.{None}
+use Rattle.scan_block.proofs.Blocks.{is_more}
+use Rattle.scan_block.proofs.some_is.Goals as goal
+
+pub loop-k-init : goal.loop-k-init
+loop-k-init c = (omega arith, λ e j l q. omega arith)
+
+pub loop-k-preserved : goal.loop-k-preserved
+loop-k-preserved c =
+    (omega (arith, c.loop-k-test.true), is_more c.args.words.now c.args.from c.loop-k.k c.loop-k.all c.loop-k.invariant.1)
+
+pub returns : goal.returns
+returns c =
+    λ e j l. c.loop-k.invariant.1 (omega (arith, eqb-false (c.loop-k.all % 2) 0 e)) j (omega arith)
