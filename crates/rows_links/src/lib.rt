@@ -1,5 +1,6 @@
 // The bits that kinds and links set in cleared rows, and the closure of the yes rows by Warshall's algorithm.
 #![tactic(auto)]
+
 ghost use Rattle.std.specs.Prelude.{◌≡◌, cond, ◌+◌, ◌-◌, ◌*◌, ◌/◌, ◌<◌, ◌≤◌, length};
 ghost use Rattle.theory.specs.Words.{tail_of, head_of};
 ghost use Rattle.theory.specs.Origins.{chosen, InsideFrom};
