@@ -1,16 +1,15 @@
 -- What a step asks for, return by return.
 use Prim.Native.Nat.{ℕ, zero, suc, ◌+◌, ◌-◌, ◌*◌, ◌/◌, ◌%◌, ◌≤◌, ◌<◌}
-use mathlib.Core.Path.{◌≡◌, refl, sym, ap, ◌∙◌}
-use mathlib.Core.Bool.{Bool, true, false, cond, ◌&&◌, ◌||◌}
+use mathlib.Core.Path.{◌≡◌, refl, sym, ◌∙◌}
+use mathlib.Core.Bool.{Bool, true, false, cond}
 use mathlib.Core.List.{List}
-use mathlib.Core.Logic.{◌⊎◌, inl, inr}
 use native.Mathlib.Omega.{arith}
-use lib.Dec.{eqb, ltb, leb}
+use lib.Dec.{eqb, ltb}
 use borrow.Author.Tests.{eqb-true, eqb-false, ltb-true, lt-ltb, le-ltb}
 use Rattle.theory_laws.proofs.Booleans.{and_left, and_right, or_split}
-use Rattle.theory.specs.Words.{is, isnt, sign_number, word, tail_of, head_of, parity, sign_at, sign_of}
-use Rattle.theory.specs.Sequents.{LeftRule, →⊢, →⊢', ↛⊢, ↛⊢', uses, asks_kind, asks_sign, gives_kind, gives_sign}
-use Rattle.proof_form.specs.Checker.{individual, kind, given, rule_at, by_axiom, by_right, by_left, two_of, asks}
+use Rattle.theory.specs.Words.{is, sign_number, word, tail_of, head_of, parity, sign_at, sign_of}
+use Rattle.theory.specs.Sequents.{→⊢, →⊢', ↛⊢, ↛⊢', uses}
+use Rattle.proof_form.specs.Checker.{individual, rule_at, by_axiom, by_right, by_left, two_of, asks}
 use Rattle.proof_form.specs.declared.Asks.{Asks}
 use Rattle.proof_form.specs.declared.Asks.TheVariants.{Broken, Nothing, One, Two}
 use Rattle.proof_form.proofs.Tests.{by_test}

@@ -1,5 +1,6 @@
 // One step of a proof: whether it is by its rule, and what it asks to be proved above it. Links are those that a set of origins chooses.
 #![tactic(auto)]
+
 ghost use Rattle.std.specs.Prelude.{◌≡◌, ℕ, ◌+◌, ◌*◌, ◌≤◌, ◌<◌, length};
 ghost use Rattle.proof_form.specs.Checker.{individual, kind, rule_at, by_axiom, by_right, by_left, two_of, asks};
 ghost use Rattle.theory.specs.Origins.{chosen};
