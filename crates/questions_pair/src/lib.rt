@@ -10,7 +10,7 @@ use net::{Refusal, is_bad_pair};
 use question::{Asked, answer_at, full_scan};
 
 // The node whose full scan stands in a buffer of marks, and the count of its rounds. Where `node` is none, nothing is known of the marks.
-#[derive(Drop)]
+#[derive(Clone, Copy)]
 pub struct Held {
     pub node: usize,
     pub count: u32,

@@ -1,5 +1,6 @@
 // One link in a pass over the links of a sign: which words are followed, and the marks that are put along one.
 #![tactic(auto)]
+
 ghost use Rattle.std.specs.Prelude.{◌≡◌, true, ℕ, ◌<◌, ◌≤◌, length};
 ghost use Rattle.theory.specs.Origins.{origin_of, origin_limit, EndsFrom};
 ghost use Rattle.scan_lanes.specs.Lanes.{lane_from};

@@ -1,0 +1,15 @@
+-- The list is right at the classes below i.
+use Prim.Native.Nat.{ℕ, ◌-◌, ◌<◌, ◌≤◌}
+use mathlib.Core.Path.{◌≡◌, refl}
+use borrow.Author.Rules.{rules}
+use native.Mathlib.Omega.{arith}
+use lib.ListN.{length, get_or, length-set}
+use Rattle.scan_link.specs.Classes.{word_in, lanes_for}
+use Rattle.scan_link.proofs.Classes.{table_more, table_all}
+use Rattle.scan_link.proofs.table_of.Given as goal
+
+abbrev pub invariant-loop-i : goal.invariant-loop-i
+invariant-loop-i l = (l.i ≤ 8) × (length l.table ≡ 8) × ((k : ℕ) → k < l.i → get_or l.table k 0 ≡ lanes_for l.set l.sign (word_in k))
+
+abbrev pub decreases-loop-i : goal.decreases-loop-i
+decreases-loop-i l = 8 - l.i
