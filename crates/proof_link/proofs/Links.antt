@@ -1,14 +1,13 @@
 -- A link of the path, return by return.
 use Prim.Native.Nat.{ℕ, suc, ◌+◌, ◌*◌, ◌≤◌, ◌<◌}
-use mathlib.Core.Path.{◌≡◌, refl, sym, ap, ◌∙◌}
-use mathlib.Core.Bool.{Bool, true, false, cond}
+use mathlib.Core.Path.{◌≡◌, sym, ◌∙◌}
+use mathlib.Core.Bool.{Bool, true, false}
 use mathlib.Core.List.{List}
 use native.Mathlib.Omega.{arith}
-use lib.Dec.{eqb, ltb}
 use lib.ListN.{get_or}
 use borrow.Author.Tests.{eq-eqb, ne_eqb, lt-ltb, le-ltb}
 use Rattle.proof_form.specs.Checker.{stands_in}
-use Rattle.proof_form.specs.FromReason.{hop_of, hop_at}
+use Rattle.proof_form.specs.FromReason.{hop_at}
 use Rattle.proof_link.specs.Numbered.{link_of}
 use Rattle.proof_link.specs.declared.Link.{Link}
 

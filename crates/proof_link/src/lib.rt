@@ -1,5 +1,6 @@
 // One link of a reason's path, and the rule on the left that uses it. At the crossing the chosen words decide which way round the link stands.
 #![tactic(auto)]
+
 ghost use Rattle.std.specs.Prelude.{◌≡◌, ℕ, ◌+◌, ◌*◌, ◌<◌, length};
 ghost use Rattle.theory.specs.Origins.{chosen};
 ghost use Rattle.proof_form.specs.FromReason.{hop_at};
