@@ -1,5 +1,6 @@
 // The nodes that a link command of the marker unit is to mark, kept aside in 1,024 bits.
 #![tactic(auto)]
+
 ghost use Rattle.std.specs.Prelude.{◌≡◌, ◌^◌, ◌<◌, ◌≤◌, length};
 ghost use Rattle.theory.specs.Marks.{has, near, far};
 ghost use Rattle.theory.specs.Origins.{chosen, EndsFrom, InsideFrom};
@@ -99,7 +100,7 @@ pub fn gather_nodes(set: u32, c: Command, n: usize, words: &[u32], marks: &[u8],
 {
     let mut i = 0;
     while i < words.len() {
-        gather_one(set, c, n, words[i], marks, aside);
+        gather_one(set, Command { ..c }, n, words[i], marks, aside);
         i += 1;
     }
 }

@@ -1,6 +1,7 @@
 // A link command of the marker unit over the links that a set of origins chooses. Where it tests for the marker that it puts, the nodes that it is to mark
 // are kept aside and marked afterwards; where it tests for another, they are marked at once.
 #![tactic(auto)]
+
 ghost use Rattle.std.specs.Prelude.{◌≡◌, cond, ◌<◌, ◌≤◌, length};
 ghost use Rattle.theory.specs.Marks.{mark, command};
 ghost use Rattle.theory.specs.Growth.{Set};
@@ -81,7 +82,7 @@ fn run_in_place(set: u32, c: Command, n: usize, words: &[u32], marks: &mut [u8])
     let mut changed = false;
     let mut i = 0;
     while i < words.len() {
-        changed = changed | link_here(set, c, n, words[i], marks);
+        changed = changed | link_here(set, Command { ..c }, n, words[i], marks);
         i += 1;
     }
     changed
