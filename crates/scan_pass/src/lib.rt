@@ -1,5 +1,6 @@
 // A pass over the links of one sign that a set of origins chooses: the loops that every scan runs.
 #![tactic(auto)]
+
 ghost use Rattle.std.specs.Prelude.{◌≡◌, ◌+◌, ◌-◌, ◌%◌, ◌≤◌, length, drop};
 ghost use Rattle.theory.specs.Origins.{chosen, InsideFrom};
 ghost use Rattle.scan_lanes.specs.Lanes.{lane_pass};

@@ -1,0 +1,19 @@
+-- The words up to the one that the loop has come to were followed, or do nothing.
+use Prim.Native.Nat.{◌-◌, ◌<◌, ◌≤◌}
+use mathlib.Core.Path.{◌≡◌, refl, ◌∙◌}
+use borrow.Author.Rules.{rules}
+use native.Mathlib.Omega.{arith}
+use lib.ListN.{length, drop}
+use Rattle.theory.specs.Origins.{chosen}
+use Rattle.theory.proofs.origins.Statements.{inside_from_at}
+use Rattle.scan_lanes.specs.Lanes.{lane_pass}
+use Rattle.scan_pass.proofs.Links.{lane_more}
+use Rattle.scan_pass.proofs.follow_open.Given as goal
+
+abbrev pub invariant-loop-i : goal.invariant-loop-i
+invariant-loop-i l =
+    (l.end ≤ length l.words - 7) × (l.i ≤ length l.words) × (length l.marks ≡ length l.initial.marks)
+    × (lane_pass l.sign (chosen l.set l.words) l.initial.marks ≡ lane_pass l.sign (chosen l.set (drop l.i l.words)) l.marks)
+
+abbrev pub decreases-loop-i : goal.decreases-loop-i
+decreases-loop-i l = length l.words - l.i
