@@ -1,5 +1,6 @@
 // The distance of every state to the end of a statement, over the words that a set of origins chooses: level by level, each one pass over the words.
 #![tactic(auto)]
+
 ghost use Rattle.std.specs.Prelude.{◌≡◌, cond, [], ◌∷◌, ◌+◌, ◌*◌, ◌<◌, ◌≤◌, length, set, replicate};
 ghost use Rattle.theory.specs.Words.{sign_at};
 ghost use Rattle.theory.specs.Reasons.{goal, never};
