@@ -1,5 +1,6 @@
 // The entries of a net file's contents.
 #![tactic(auto)]
+
 ghost use Rattle.std.specs.Prelude.{◌<◌, ◌≤◌, ◌≡◌, length};
 ghost use Rattle.netfile_entry.specs.Entries.{entries, contents_size, right_length, right_end, entry_at, fourth_at};
 

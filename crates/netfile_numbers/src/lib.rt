@@ -1,5 +1,6 @@
 // Little-endian numbers: of two bytes, of four, and a body of four bytes each.
 #![tactic(auto)]
+
 ghost use Rattle.std.specs.Prelude.{◌+◌, ◌/◌, ◌<◌, ◌≤◌, ◌≡◌, ◌++◌, length, drop};
 ghost use Rattle.netfile_numbers.specs.Bytes.{u16_at, u32_at, u32s};
 
