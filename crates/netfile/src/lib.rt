@@ -1,5 +1,6 @@
 // The reader of a net file: its contents, and its bodies as stretches of the file itself.
 #![tactic(auto)]
+
 ghost use Rattle.std.specs.Prelude.{◌≡◌, map};
 ghost use Rattle.netfile.specs.Contents.{wrong_size, contents_of, no_bodies, bodies_of};
 

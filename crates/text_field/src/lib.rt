@@ -1,5 +1,6 @@
 // The writer of one field of a line, bytes or a number in decimal, into the front of what it is lent.
 #![tactic(auto)]
+
 ghost use Rattle.std.specs.Prelude.{◌+◌, ◌<◌, ◌≤◌, ◌≡◌, ◌++◌, ◌∷◌, [], length, drop};
 ghost use Rattle.text_field.specs.Writing.{Wrote};
 ghost use Rattle.text_field.specs.Decimal.{decimal};

@@ -1,5 +1,4 @@
 use mathlib.Core.Path.{sym, ◌∙◌}
-use borrow.Author.Rules.{rules}
 use Rattle.netfile_entry.proofs.Opening.{four_entries, three_entries}
 use Rattle.netfile_entry.proofs.entry_count.Goals as goal
 

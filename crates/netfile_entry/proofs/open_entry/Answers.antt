@@ -1,7 +1,6 @@
 use mathlib.Core.Path.{sym, ◌∙◌}
 use borrow.Author.Tests.{not-true, not-false}
 use Rattle.netfile_entry.proofs.Opening.{wrong_start, wrong_length, wrong_end, opened}
-use borrow.Author.Rules.{rules}
 use Rattle.netfile_entry.proofs.open_entry.Goals as goal
 
 pub returns-then-start-from : goal.returns-then-start-from

@@ -1,5 +1,4 @@
 use mathlib.Core.Path.{◌∙◌}
-use borrow.Author.Rules.{rules}
 use Rattle.netfile_entry.proofs.Opening.{no_fourth, a_fourth}
 use Rattle.netfile_entry.proofs.open_fourth.Goals as goal
 
