@@ -1,18 +1,16 @@
 -- One axiom more in front of the list: the loop goes from the first link up.
-use Prim.Native.Nat.{ℕ, zero, suc, ◌+◌, ◌-◌, ◌*◌, ◌%◌, ◌≤◌, ◌<◌}
-use mathlib.Core.Path.{◌≡◌, refl, sym, ap, ◌∙◌}
-use mathlib.Core.Bool.{cond}
-use mathlib.Core.List.{List, [], ◌∷◌, ◌++◌}
+use Prim.Native.Nat.{ℕ, ◌+◌, ◌*◌, ◌%◌, ◌≤◌, ◌<◌}
+use mathlib.Core.Path.{◌≡◌, refl, ◌∙◌}
+use mathlib.Core.List.{List}
 use native.Mathlib.Omega.{arith}
 use native.Mathlib.Numerals.{add-one}
-use lib.Dec.{eqb}
 use lib.ListN.{length, set}
-use borrow.Author.Tests.{eq-eqb, ne_eqb}
+use borrow.Author.Tests.{ne_eqb}
 use Rattle.theory_laws.specs.Over.{over}
-use Rattle.theory.specs.Words.{sign_number, word}
+use Rattle.theory.specs.Words.{word}
 use Rattle.theory.specs.Sequents.{LeftRule, →⊢, →⊢', ↛⊢, ↛⊢', gives_kind, gives_sign}
 use Rattle.theory.specs.ProofFiles.{rule_of}
-use Rattle.proof_form.specs.Ours.{Hop, close_step, close_steps}
+use Rattle.proof_form.specs.Ours.{close_steps}
 use Rattle.proof_form.specs.FromReason.{hop_at, hops_from}
 use Rattle.proof_form.proofs.Writing.{length_closes, length_from, closes_go}
 use Rattle.proof_link.specs.Numbered.{link_of}

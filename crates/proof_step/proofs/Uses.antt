@@ -1,6 +1,6 @@
 -- One step more in front of the list: the loop goes from the last link down.
-use Prim.Native.Nat.{ℕ, zero, suc, ◌+◌, ◌-◌, ◌*◌, ◌/◌, ◌≤◌, ◌<◌}
-use mathlib.Core.Path.{◌≡◌, refl, sym, ap, ◌∙◌}
+use Prim.Native.Nat.{ℕ, suc, ◌+◌, ◌-◌, ◌*◌, ◌/◌, ◌≤◌, ◌<◌}
+use mathlib.Core.Path.{◌≡◌, refl, ap, ◌∙◌}
 use mathlib.Core.List.{List, [], ◌∷◌, ◌++◌, append_assoc}
 use native.Mathlib.Omega.{arith}
 use lib.ListN.{length, set}
@@ -9,7 +9,7 @@ use Rattle.theory_laws.proofs.Over.{over_one}
 use Rattle.theory.specs.Words.{sign_number, word}
 use Rattle.theory.specs.Sequents.{LeftRule, →⊢, →⊢', ↛⊢, ↛⊢', uses}
 use Rattle.theory.specs.ProofFiles.{rule_of}
-use Rattle.proof_form.specs.Ours.{Hop, use_step, use_steps}
+use Rattle.proof_form.specs.Ours.{Hop, use_steps}
 use Rattle.proof_form.specs.FromReason.{hop_at, hops_from}
 use Rattle.proof_form.proofs.Writing.{length_uses, length_from, uses_go}
 use Rattle.proof_link.specs.Numbered.{link_of}

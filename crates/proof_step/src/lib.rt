@@ -1,5 +1,6 @@
 // Parts of our proof's list: the steps that use links, the last link first; their axioms, the first link first; the contents of the branches.
 #![tactic(auto)]
+
 ghost use Rattle.std.specs.Prelude.{◌≡◌, ℕ, ◌+◌, ◌-◌, ◌*◌, ◌/◌, ◌≤◌, ◌<◌, length, set};
 ghost use Rattle.theory_laws.specs.Over.{over};
 ghost use Rattle.proof_form.specs.FromReason.{hops_from};

@@ -1,0 +1,18 @@
+use mathlib.Core.Path.{refl, ◌∙◌}
+use native.Mathlib.Omega.{arith}
+use Rattle.theory.specs.Origins.{chosen}
+use Rattle.proof_step.proofs.Closes.{closes_start, closes_more, closes_end}
+use Rattle.proof_step.proofs.write_closes.Goals as goal
+
+pub loop-i-init : goal.loop-i-init
+loop-i-init c =
+    (omega arith, refl, closes_start (chosen c.args.set c.args.words.now) c.args.path.now c.args.first c.args.links c.args.node c.args.list.now)
+
+pub loop-i-preserved : goal.loop-i-preserved
+loop-i-preserved c =
+    let put = c.put_step.ensures ∙ closes_more (chosen c.args.set c.args.words.now) c.args.path.now c.args.first c.args.links c.args.node c.args.list.now c.loop-i.i c.loop-i.list _ _ (omega arith) (omega arith) c.loop-i.invariant.2 c.link_at-link.ensures c.close_word-word.ensures in
+    (omega arith, c.put_step.auto.list ∙ c.loop-i.invariant.1, put)
+
+pub returns : goal.returns
+returns c =
+    closes_end (chosen c.args.set c.args.words.now) c.args.path.now c.args.first c.args.links c.args.node c.args.list.now c.loop-i.i c.loop-i.list (omega arith) (omega arith) c.loop-i.invariant.2
