@@ -1,12 +1,12 @@
 -- The loops that pass no on to what is a kind, in the terms of the code: what needs no look, a turn more, and the end.
 use Prim.Native.Nat.{ℕ, zero, suc, ◌+◌, ◌-◌, ◌*◌, ◌/◌, ◌%◌, ◌≤◌, ◌<◌}
-use mathlib.Core.Path.{◌≡◌, refl, sym, ap, ◌∙◌}
+use mathlib.Core.Path.{◌≡◌, refl, sym, ◌∙◌}
 use mathlib.Core.Bool.{Bool, true, false, cond, not}
 use mathlib.Core.List.{List}
 use native.Mathlib.Omega.{arith}
 use borrow.Author.Tests.{eqb-true, eq-eqb, not-false}
 use lib.Dec.{eqb}
-use lib.ListN.{get_or, set}
+use lib.ListN.{get_or}
 use lib.Seq.{set-get_or}
 use lib.Bits.{bit_and, and_self, and_le_r}
 use Rattle.theory_laws.proofs.Bits.{or_had}

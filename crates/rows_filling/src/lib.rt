@@ -1,6 +1,7 @@
 // The rows of a net: exactly what the chosen words support, whatever the rows held before. The no rows come from the yes rows: what is no of a node's
 // kinds is no of it (3.4), and so is what is such a kind (3.5).
 #![tactic(auto)]
+
 ghost use Rattle.std.specs.Prelude.{◌≡◌, true, cond, ◌++◌, ℕ, ◌+◌, ◌-◌, ◌*◌, ◌<◌, ◌≤◌, length, drop};
 ghost use Rattle.theory.specs.Words.{is, isnt};
 ghost use Rattle.theory.specs.Marks.{has};
