@@ -5,10 +5,6 @@ use borrow.Author.Fill.{fill_more}
 use lib.ListN.{length-set}
 use Rattle.rows_word.proofs.clear_words.Goals as goal
 
--- LEFT (same-length):
--- same_length : tie.Need-same-length invariant-loop decreases-loop
--- same_length c = c.before.loop.invariant.1
-
 pub loop-i-init : goal.loop-i-init
 loop-i-init c = (search rules, refl, refl)
 

@@ -5,10 +5,6 @@ use lib.ListN.{length-set}
 use Rattle.rows_word.proofs.Going.{gain_start, gain_go, gain_end}
 use Rattle.rows_word.proofs.join_rows.Goals as goal
 
--- LEFT (same-length):
--- same_length : tie.Need-same-length invariant-loop decreases-loop
--- same_length c = c.before.loop.invariant.1
-
 pub loop-j-init : goal.loop-j-init
 loop-j-init c = (search rules, refl, gain_start c.args.a c.args.b c.args.w c.args.others.now c.args.rows.now)
 

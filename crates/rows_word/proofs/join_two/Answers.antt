@@ -5,10 +5,6 @@ use lib.ListN.{length-set}
 use Rattle.rows_word.proofs.Going.{gain_two_start, gain_two_go, gain_two_end}
 use Rattle.rows_word.proofs.join_two.Goals as goal
 
--- LEFT (same-length):
--- same_length : tie.Need-same-length invariant-loop decreases-loop
--- same_length c = c.before.loop.invariant.1
-
 pub loop-j-init : goal.loop-j-init
 loop-j-init c = (search rules, refl, gain_two_start c.args.a c.args.b c.args.c c.args.w c.args.others.now c.args.rows.now)
 
