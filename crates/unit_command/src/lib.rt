@@ -1,5 +1,6 @@
 // One command of the marker unit: how its word is read, and what it does to the marks.
 #![tactic(auto)]
+
 ghost use Rattle.std.specs.Prelude.{◌≡◌, not, map, ◌-◌, ◌<◌, ◌≤◌, length};
 ghost use Rattle.std.specs.Int.Bits.{bit_and};
 ghost use Rattle.theory.specs.Marks.{mark};
