@@ -5,7 +5,7 @@ use crate::places::{node, word_at};
 use crate::sequents::statement;
 
 // A line. Rule 0 is a link, and its first number the link's index; rules 1 to 5 are (3.1) to (3.5), and their numbers those of lines.
-#[derive(Drop)]
+#[derive(Clone, Copy)]
 pub struct Line {
     pub statement: u32,
     pub rule: u32,

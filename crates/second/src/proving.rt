@@ -6,7 +6,7 @@ use crate::search::{next_state, node_of};
 use crate::sequents::{Step, behind, statement};
 
 // The shape of a proof: 1 where it begins with a right rule and 0 where not, and how many left rules it has.
-#[derive(Drop)]
+#[derive(Clone, Copy)]
 pub struct Shape {
     pub right: usize,
     pub lefts: usize,

@@ -34,7 +34,7 @@ const ENTRY: usize = 4;
 const FIRST_STEP: usize = 5;
 
 // A step: its rule, the individual that it is about, and its link. The rules are 0 and 1 the axioms, 2 and 3 the right rules, 4 →⊢, 5 →⊢', 6 ↛⊢, 7 ↛⊢'.
-#[derive(Drop)]
+#[derive(Clone, Copy)]
 pub struct Step {
     pub rule: u32,
     pub object: u32,
