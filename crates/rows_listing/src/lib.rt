@@ -1,5 +1,6 @@
 // The completed list out of rows: its size by counting ones, its words by the next node of each row.
 #![tactic(auto)]
+
 ghost use Rattle.std.specs.Prelude.{◌≡◌, ◌+◌, ◌*◌, ◌<◌, ◌≤◌, length};
 ghost use Rattle.std.specs.Int.Bits.{bit_or};
 ghost use Rattle.theory_laws.specs.Over.{over};
