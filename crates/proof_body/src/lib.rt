@@ -1,5 +1,6 @@
 // Our proof's list: the contents, then the steps: a kind's right rule, those that use links, the innermost axiom, the axioms beside the links.
 #![tactic(auto)]
+
 ghost use Rattle.std.specs.Prelude.{◌≡◌, ◌++◌, [], ◌∷◌, ℕ, ◌+◌, ◌*◌, ◌≤◌, ◌<◌, length};
 ghost use Rattle.theory_laws.specs.Over.{over};
 ghost use Rattle.proof_form.specs.FromReason.{hops_from};
