@@ -1,7 +1,7 @@
 // An answer: its number in the table, and the values that go with that number.
 
 // A number of the table with its values, 0 where the number has none.
-#[derive(Drop)]
+#[derive(Clone, Copy)]
 pub struct Reply {
     pub number: u32,
     pub first: u32,
