@@ -1,5 +1,6 @@
 // One round: a pass over the "is" links for its first three commands, and one over the "is not" links for the last two, left out where it would set nothing.
 #![tactic(auto)]
+
 ghost use Rattle.std.specs.Prelude.{◌≡◌, false, not, ℕ, ◌<◌, ◌≤◌, length, get_or};
 ghost use Rattle.theory_laws.specs.Deciding.{Decides};
 ghost use Rattle.theory.specs.Marks.{U, has, commands, round};

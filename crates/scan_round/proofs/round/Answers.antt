@@ -1,0 +1,38 @@
+-- The two passes are the round, and the second is left out only where its commands are quiet.
+use borrow.Author.Rules.{rules}
+use Rattle.scan_lanes.specs.Passes.{is_commands}
+use Rattle.scan_lanes.proofs.Machine.{puts_is}
+use Rattle.scan_round.proofs.Turns.{ran_room, ran_written, round_passed, round_run}
+use Rattle.scan_round.proofs.round.Goals as goal
+
+pub run_is-new-requires : goal.run_is-new-requires
+run_is-new-requires c =
+    record {
+      table = c.requires.is_table;
+      inside = c.requires.inside;
+      room = c.requires.room;
+      written = c.requires.written;
+    }
+
+pub returns-then-not-first-came : goal.returns-then-not-first-came
+returns-then-not-first-came c =
+    let t =
+    round_passed c.args.n c.args.set c.args.words.now c.args.marks.now c.requires.inside c.requires.room c.run_is-new.new.marks c.run_is-new.ensures.marks_after c.run_is-new.result c.run_is-new.ensures.decides
+    c.args.first c.args.signs.isnts c.requires.isnts c.requires.passed c.run_is-new.ensures.v_value c.if-not-first-came.true-raw in
+    record { marks_after = t.0; set = t.1.0; quiet = t.1.1 }
+
+pub run_isnt-crossed-requires : goal.run_isnt-crossed-requires
+run_isnt-crossed-requires c =
+    record {
+      table = c.requires.isnt_table;
+      inside = c.requires.inside;
+      room = ran_room c.args.n c.args.set c.args.words.now c.args.marks.now c.requires.inside c.requires.room is_commands puts_is c.run_is-new.new.marks c.run_is-new.ensures.marks_after;
+      written = ran_written c.args.n c.args.set c.args.words.now c.args.marks.now c.requires.inside c.requires.room is_commands puts_is c.run_is-new.new.marks c.run_is-new.ensures.marks_after;
+    }
+
+pub returns : goal.returns
+returns c =
+    let t =
+    round_run c.args.n c.args.set c.args.words.now c.args.marks.now c.requires.inside c.requires.room c.run_is-new.new.marks c.run_is-new.ensures.marks_after c.run_is-new.result c.run_is-new.ensures.decides
+    c.run_isnt-crossed.new.marks c.run_isnt-crossed.result c.run_isnt-crossed.ensures.marks_after c.run_isnt-crossed.ensures.decides in
+    record { marks_after = t.0; set = t.1.0; quiet = t.1.1 }
