@@ -1,5 +1,6 @@
 // Which command of a program of the marker unit is at fault.
 #![tactic(auto)]
+
 ghost use Rattle.std.specs.Prelude.{◌≡◌};
 ghost use Rattle.unit_program.specs.Programs.{decode};
 ghost use Rattle.unit_program.specs.Faults.{is_end, before_end, ends, faulty, within, first_fault};
