@@ -1,5 +1,6 @@
 // The figures of a net out of its rows, by counting ones ([11]).
 #![tactic(auto)]
+
 ghost use Rattle.std.specs.Prelude.{◌≡◌, ◌+◌, ◌-◌, ◌*◌, ◌≤◌, length};
 ghost use Rattle.figures_counts.specs.Ones.{ones_both, row_four, row_figures, Fits};
 
