@@ -1,7 +1,7 @@
 -- All bench readings marked P, under one theorem, by computation.
 use mathlib.Core.Path.{◌≡◌, refl}
 use mathlib.Core.Bool.{true}
-use mathlib.Core.List.{List, ◌∷◌, Memᴰ}
+use mathlib.Core.List.{List, [], ◌∷◌, Memᴰ}
 use Rattle.theory_laws.proofs.Booleans.{and_left, and_right}
 use Rattle.theory.specs.Marks.{mark, link, links, command, round}
 use Rattle.theory.specs.Scans.{after, same, rounds}
@@ -22,6 +22,7 @@ all_agree_lem = refl
 -- Where all entries of a table agree, each is an equation.
 agreeing : (es : List Reading) → all_agree es ≡ true → (e : Reading) → Memᴰ e es → e.gives ≡ e.paper
 unfolding all_agree
+agreeing [] h e m = elim m [ ]
 agreeing (a ∷ es) h e (Memᴰ.head p) = rw p (same_eq a.gives a.paper (and_left (same a.gives a.paper) (all_agree es) h))
 agreeing (a ∷ es) h e (Memᴰ.tail m) = agreeing es (and_right (same a.gives a.paper) (all_agree es) h) e m
 
