@@ -11,9 +11,9 @@ use lib.Seq.{take_all, drop-drop}
 use Rattle.theory_laws.proofs.Booleans.{contradiction}
 use Rattle.unit_program.specs.declared.Instruction.{Instruction}
 use Rattle.unit_program.specs.declared.Instruction.TheVariants as instruction
-use Rattle.unit_program.specs.Programs.{op_of, rest_of, clear_of, set_of, link_of, decode, Item, loop, parts, items}
+use Rattle.unit_program.specs.Programs.{op_of, rest_of, clear_of, set_of, link_of, decode, Item, parts, items}
 use Rattle.unit_program.specs.Faults.{is_loop, before_end, Sound}
-use Rattle.unit_program.specs.Runs.{does, sets, Stand, stand, pass, passes, item, onward, run_items}
+use Rattle.unit_program.specs.Runs.{does, sets, Stand, stand, pass, passes, onward, run_items}
 use Rattle.unit_program.proofs.Parsing.{plain_first, loop_first}
 use Rattle.unit_fault.proofs.Faults.{rest_all}
 

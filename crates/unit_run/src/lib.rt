@@ -1,5 +1,6 @@
 // Passes, loops and programs of the marker unit, within a budget of commands.
 #![tactic(auto)]
+
 ghost use Rattle.std.specs.Prelude.{◌≡◌, false, map, suc, ◌<◌, ◌≤◌, length, drop};
 ghost use Rattle.theory.specs.Origins.{chosen, InsideFrom};
 ghost use Rattle.unit_program.specs.Programs.{decode, items};
