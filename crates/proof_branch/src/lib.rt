@@ -1,5 +1,6 @@
 // A sequent and its premises are checked by turns.
 #![tactic(auto)]
+
 ghost use Rattle.std.specs.Prelude.{◌≡◌, ℕ, ◌+◌, ◌*◌, ◌≤◌, ◌<◌, length};
 ghost use Rattle.proof_form.specs.Checker.{sequent, premises};
 ghost use Rattle.theory.specs.Origins.{chosen};
