@@ -13,7 +13,7 @@ use Rattle.theory.specs.Rows.{rows_size, Exact, supported_rows}
 use Rattle.theory.proofs.rows.Exactly.{supported_rows_length, filled_exact}
 use Rattle.rows_completion.proofs.Alike.{engines_alike}
 use Rattle.rows_answer.proofs.Alike.{without_count, left_yeses, left_noes, answers_alike}
-use Rattle.promises.specs.Engines.{Read, ours}
+use Rattle.promises.specs.Engines.{ours}
 use Rattle.promises.specs.ByRows.{ByRows}
 use Rattle.promises.proofs.Tests.{chosen_of}
 

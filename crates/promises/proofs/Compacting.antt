@@ -7,7 +7,7 @@ use native.Mathlib.Omega.{arith}
 use lib.ListN.{length, take, replicate, length-replicate}
 use lib.Seq.{take-append_seam}
 use borrow.Author.Tests.{le-ltb}
-use Rattle.theory.specs.Nets.{AllIn, Net}
+use Rattle.theory.specs.Nets.{Net}
 use Rattle.theory.specs.Marks.{blank}
 use Rattle.theory.specs.Completion.{complete}
 use Rattle.theory.specs.Compaction.{Compacted, compacted}

@@ -1,7 +1,6 @@
 -- Any engine that keeps the three demands keeps the laws of demand 3 where it is asked from the kind.
 use Prim.Native.Nat.{ℕ, ◌+◌, ◌*◌, ◌-◌, ◌≤◌, ◌<◌}
 use mathlib.Core.Path.{◌≡◌, refl, sym, ap, subst, ◌∙◌}
-use mathlib.Core.Bool.{true}
 use mathlib.Core.List.{List, [], ◌++◌, append-nil, Memᴰ}
 use mathlib.Core.Logic.{◌↔◌}
 use native.Mathlib.Omega.{arith}

@@ -1,19 +1,15 @@
 -- What is promised of origins, kept by our engine.
-use Prim.Native.Nat.{ℕ, ◌<◌}
-use mathlib.Core.Path.{◌≡◌}
-use mathlib.Core.Bool.{true}
+use Prim.Native.Nat.{ℕ}
 use mathlib.Core.List.Memᴰ
 use mathlib.Core.List.{List, ◌∷◌}
 use mathlib.Core.Logic.{⊎_elim}
 use native.Mathlib.Omega.{arith}
-use Rattle.theory.specs.Words.{Sign}
 use Rattle.theory.specs.Nets.{AllIn}
-use Rattle.theory.specs.Origins.{origin_unit, from, among, chosen}
+use Rattle.theory.specs.Origins.{from, chosen}
 use Rattle.theory.proofs.origins.Choosing.{chosen_again}
 use Rattle.theory.proofs.origins.Statements.{once_to, once_back, more_origins}
 use Rattle.theory.proofs.completion.Completing.{full_exact}
-use Rattle.promises.specs.Engines.{Read, HasZero, ours}
-use Rattle.promises.specs.Demand3.{said_by}
+use Rattle.promises.specs.Engines.{Read, ours}
 use Rattle.promises.specs.Origins.{SameOperations, FromOrigins}
 use Rattle.promises.proofs.Tests.{chosen_of}
 use Rattle.promises.proofs.Orders.{scan_order, question_order, questions_order}

@@ -1,6 +1,6 @@
 -- Links stand in any order and a repeated word counts once, for the operations that are neither a scan nor a question: over two nets of which the same words are chosen the completion,
 -- the clash test, the reason and the reason check do the same.
-use Prim.Native.Nat.{ℕ, zero, suc, ◌+◌, ◌*◌, ◌≤◌, ◌<◌}
+use Prim.Native.Nat.{ℕ, zero, suc, ◌+◌, ◌≤◌, ◌<◌}
 use mathlib.Core.Path.{◌≡◌, refl, sym, ap, ◌∙◌}
 use mathlib.Core.Bool.{Bool, true, false}
 use mathlib.Core.List.{List, [], ◌∷◌, ◌++◌}

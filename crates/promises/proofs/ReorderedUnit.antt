@@ -1,5 +1,5 @@
 -- Over two nets of which the same words are chosen the marker unit does the same, in whatever order they stand.
-use Prim.Native.Nat.{ℕ, ◌+◌, ◌≤◌}
+use Prim.Native.Nat.{ℕ, ◌+◌}
 use mathlib.Core.Path.{◌≡◌, refl, sym, ap, ◌∙◌}
 use mathlib.Core.Bool.{cond, not}
 use mathlib.Core.List.{List, ◌++◌}

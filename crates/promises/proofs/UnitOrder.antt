@@ -1,8 +1,8 @@
 -- What the marker unit does over two lists with the same words is the same, in whatever order they stand and however often: marks, count, and whether the program ended.
-use Prim.Native.Nat.{ℕ, zero, suc, ◌+◌, ◌-◌, ◌/◌, ◌%◌, ◌≤◌, ◌<◌}
+use Prim.Native.Nat.{ℕ, zero, suc, ◌-◌, ◌/◌, ◌%◌, ◌≤◌, ◌<◌}
 use mathlib.Core.Path.{◌≡◌, refl, sym, ap, ◌∙◌}
 use mathlib.Core.Bool.{Bool, true, false, cond, not, ◌&&◌, ◌||◌}
-use mathlib.Core.List.{List, [], ◌∷◌, map}
+use mathlib.Core.List.{List, [], ◌∷◌}
 use native.Mathlib.Omega.{arith}
 use lib.Bits.{bit_and}
 use lib.Dec.{eqb, ltb, leb}
@@ -11,7 +11,7 @@ use borrow.Author.Tests.{leb-true}
 use Rattle.theory_laws.proofs.Booleans.{and_left, and_right}
 use Rattle.theory.specs.Nets.{AllIn}
 use Rattle.theory.specs.Inside.{Inside}
-use Rattle.theory.specs.Marks.{mark, command, round}
+use Rattle.theory.specs.Marks.{command, round}
 use Rattle.theory.specs.Scans.{same, Scan, rounds}
 use Rattle.theory.specs.declared.Command.{Command}
 use Rattle.theory.proofs.machine.Commands.{mark_length}
@@ -21,7 +21,7 @@ use Rattle.theory.proofs.machine.Order.{rounds_order}
 use Rattle.unit_program.specs.declared.Instruction.{Instruction}
 use Rattle.unit_program.specs.declared.Instruction.TheVariants as instruction
 use Rattle.unit_program.specs.Programs.{op_of, rest_of, clear_of, set_of, link_of, loop_word, end_word, decode, Item, one, loop, Parts, part, parts, items}
-use Rattle.unit_program.specs.Runs.{does, sets, Stand, stand, pass, passes, item, onward, run_items, run}
+use Rattle.unit_program.specs.Runs.{does, sets, Stand, pass, passes, item, onward, run_items, run}
 use Rattle.unit_program.proofs.Looping.{passes_last, passes_again}
 
 -- ── what a command of a program puts is one of the eight markers ──

@@ -1,5 +1,5 @@
 -- The three earlier versions that failed, as engines. Each differs from ours only in its fault.
-use Rattle.std.specs.Prelude.{ℕ, ◌+◌, cond, List, [], ◌∷◌, ◌++◌, ltb, drop}
+use Rattle.std.specs.Prelude.{◌+◌, cond, List, [], ◌∷◌, ◌++◌, ltb, drop}
 use Rattle.theory.specs.Marks.{F, U, to_head, scan_start}
 use Rattle.theory.specs.Scans.{rounds, full_budget, full_scan}
 use Rattle.theory.specs.Downscan.{downscan}
