@@ -13,7 +13,7 @@ use readings_cases::widths::{from_bytes, to_bytes, to_halves};
 use second::Reply;
 
 // Which of the two engines.
-#[derive(Drop)]
+#[derive(Clone, Copy)]
 pub enum Engine {
     Proved,
     Second,

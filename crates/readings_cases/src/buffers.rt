@@ -3,6 +3,7 @@ use crate::operations::{Case, FIRST, Operation, SECOND, THIRD};
 use crate::places::{bytes_between, halves_before, number_at, numbers_from, rows_before};
 use crate::show::{show, show_list};
 use crate::widths::{copy, fill, from_bytes, from_halves, from_rows, to_bytes, to_halves, to_rows};
+use std::io::{self, Write};
 
 // Where the second buffer begins, after room for the first, and the third; and the size of the text of `ask`.
 pub const SECOND_BUFFER: usize = 40960;
@@ -327,18 +328,28 @@ pub fn take_text(text: &[u8; 262144], buffers: &mut [u32]) {
 }
 
 // Prints the buffers that an operation wrote in.
-pub fn show_buffers(operation: Operation, case: Case, buffers: &[u32]) {
+pub fn show_buffers<W: Write>(
+    out: &mut W,
+    operation: Operation,
+    case: Case,
+    buffers: &[u32],
+) -> io::Result<()> {
     if writes_first(operation) {
-        show_list(numbers_from(buffers, 0, case.first), has_rows(operation));
+        show_list(
+            out,
+            numbers_from(buffers, 0, case.first),
+            has_rows(operation),
+        )?;
     }
     if writes_second(operation) {
         show_list(
+            out,
             numbers_from(buffers, SECOND_BUFFER, second_size(operation, case)),
             has_rows(operation),
-        );
+        )?;
     }
     if writes_third(operation) {
-        show_list(numbers_from(buffers, THIRD_BUFFER, case.third), false);
+        show_list(out, numbers_from(buffers, THIRD_BUFFER, case.third), false)?;
     }
-    show(b"\n");
+    show(out, b"\n")
 }

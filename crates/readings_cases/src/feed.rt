@@ -1,16 +1,16 @@
-// Standard input, line by line, by way of a chunk of bytes.
+// The input, line by line, by way of a chunk of bytes.
 use crate::places::{byte_at, next, put_byte};
-use libc::STDIN_FILENO;
+use std::io::{self, Read};
 
 // Which bytes of the chunk are still to be taken.
-#[derive(Drop)]
+#[derive(Clone, Copy)]
 pub struct Feed {
     pub at: usize,
     pub end: usize,
 }
 
 // A line that was taken: how many bytes it has, whether all of them had room, and whether there was a line at all.
-#[derive(Drop)]
+#[derive(Clone, Copy)]
 pub struct Line {
     pub feed: Feed,
     pub size: usize,
@@ -19,15 +19,12 @@ pub struct Line {
 }
 
 // The next bytes of the input, where all of the chunk were taken; none at the end of the input.
-fn refilled(chunk: &mut [u8], feed: Feed) -> Feed {
+fn refilled<R: Read>(input: &mut R, chunk: &mut [u8], feed: Feed) -> io::Result<Feed> {
     if feed.at < feed.end {
-        return feed;
+        return Ok(feed);
     }
-    let got = libc::read(STDIN_FILENO, chunk);
-    Feed {
-        at: 0,
-        end: io::count(got, chunk),
-    }
+    let got = input.read(chunk)?;
+    Ok(Feed { at: 0, end: got })
 }
 
 // The line with one byte more.
@@ -82,21 +79,26 @@ fn ended(line: Line, feed: Feed) -> Line {
 }
 
 // Takes the next line without its end, which is byte 10 or the end of the input.
-pub fn take_line(chunk: &mut [u8], feed: Feed, room: &mut [u8]) -> Line {
+pub fn take_line<R: Read>(
+    input: &mut R,
+    chunk: &mut [u8],
+    feed: Feed,
+    room: &mut [u8],
+) -> io::Result<Line> {
     let mut line = nothing(feed);
     let mut turns: u64 = u64::MAX;
     while turns > 0 {
         let old = line.feed;
-        let now = refilled(chunk, old);
+        let now = refilled(input, chunk, old)?;
         if now.at >= now.end {
-            return fed(line, now);
+            return Ok(fed(line, now));
         }
         let byte = byte_at(chunk, now.at);
         if byte == 10 {
-            return ended(line, after(now));
+            return Ok(ended(line, after(now)));
         }
         line = lengthened(fed(line, after(now)), byte, room);
         turns -= 1;
     }
-    line
+    Ok(line)
 }

@@ -12,28 +12,28 @@ pub const BAD: u32 = 1;
 pub const LARGE: u32 = 2;
 
 // The place of the next byte to read, and what was found wrong before it.
-#[derive(Drop)]
+#[derive(Clone, Copy)]
 pub struct Place {
     pub at: usize,
     pub fault: u32,
 }
 
 // A number, and the place after it.
-#[derive(Drop)]
+#[derive(Clone, Copy)]
 pub struct Number {
     pub place: Place,
     pub value: u64,
 }
 
 // The number that the digits read so far make, and whether it is below 2^64.
-#[derive(Drop)]
+#[derive(Clone, Copy)]
 struct Digits {
     value: u64,
     fits: bool,
 }
 
 // A number of a list and how often it stands there, and the place after it.
-#[derive(Drop)]
+#[derive(Clone, Copy)]
 struct Item {
     place: Place,
     value: u64,
@@ -41,7 +41,7 @@ struct Item {
 }
 
 // How far a list was read: whether its bracket is still open, the place, and where its next number goes.
-#[derive(Drop)]
+#[derive(Clone, Copy)]
 struct Filling {
     open: bool,
     place: Place,
@@ -49,7 +49,7 @@ struct Filling {
 }
 
 // What a list takes: where in the store it begins, where its room ends, the largest number that it may hold, and whether its numbers are wide.
-#[derive(Drop)]
+#[derive(Clone, Copy)]
 pub struct Bounds {
     pub base: usize,
     pub limit: usize,
@@ -58,7 +58,7 @@ pub struct Bounds {
 }
 
 // A list that was read: how many places it takes, and the place after it.
-#[derive(Drop)]
+#[derive(Clone, Copy)]
 pub struct List {
     pub place: Place,
     pub size: usize,

@@ -6,7 +6,7 @@ use crate::places::{byte_at, next, number_at, put_number, same_bytes};
 use crate::widths::lower_half;
 
 // An operation of the two engines.
-#[derive(Drop)]
+#[derive(Clone, Copy)]
 pub enum Operation {
     CheckNet,
     CheckWord,
@@ -44,7 +44,7 @@ pub const SECOND: usize = 57352;
 pub const THIRD: usize = 98312;
 
 // A case that was read: the place after it, how many numbers, words and buffers it has, and the places that its buffers take.
-#[derive(Drop)]
+#[derive(Clone, Copy)]
 pub struct Case {
     pub place: Place,
     pub numbers: usize,
@@ -57,7 +57,7 @@ pub struct Case {
 
 // The numbers of a case: o, k, the set of origins, and what follows it. The one word of a single test stands in the set's place, and a
 // case without a net has no set.
-#[derive(Drop)]
+#[derive(Clone, Copy)]
 pub struct Numbers {
     pub o: u32,
     pub k: u32,

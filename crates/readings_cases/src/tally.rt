@@ -1,9 +1,10 @@
 // How many lines were read and cases run, and how they ended.
 use crate::fields::LARGE;
 use crate::show::{show, show_number};
+use std::io::{self, Write};
 
 // The number of lines read, of cases run, of those on which the engines agreed and differed, and of lines that were no case.
-#[derive(Drop)]
+#[derive(Clone, Copy)]
 pub struct Tally {
     pub line: u64,
     pub cases: u64,
@@ -73,16 +74,16 @@ pub fn with_fault(tally: Tally, fault: u32) -> Tally {
 }
 
 // Prints the counts.
-pub fn show_tally(tally: Tally) {
-    show(b"cases ");
-    show_number(tally.cases);
-    show(b", agreed ");
-    show_number(tally.agreed);
-    show(b", differed ");
-    show_number(tally.differed);
-    show(b", bad ");
-    show_number(tally.bad);
-    show(b", too large ");
-    show_number(tally.large);
-    show(b"\n");
+pub fn show_tally<W: Write>(out: &mut W, tally: Tally) -> io::Result<()> {
+    show(out, b"cases ")?;
+    show_number(out, tally.cases)?;
+    show(out, b", agreed ")?;
+    show_number(out, tally.agreed)?;
+    show(out, b", differed ")?;
+    show_number(out, tally.differed)?;
+    show(out, b", bad ")?;
+    show_number(out, tally.bad)?;
+    show(out, b", too large ")?;
+    show_number(out, tally.large)?;
+    show(out, b"\n")
 }
