@@ -1,5 +1,6 @@
 // The answers of the check of a net and of the test of a word as replies.
 #![tactic(auto)]
+
 ghost use Rattle.std.specs.Prelude.{◌≡◌};
 ghost use Rattle.net.specs.Table.{checked_reply};
 ghost use Rattle.check_word.specs.Table.{word_reply};
