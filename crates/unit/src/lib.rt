@@ -1,5 +1,6 @@
 // The marker unit ([13]): a program of commands run on the marks of a net, within a budget of commands; and the program that is written for the merged scan.
 #![tactic(auto)]
+
 ghost use Rattle.std.specs.Prelude.{◌≡◌, ◌≤◌};
 ghost use Rattle.theory.specs.Origins.{chosen, InsideFrom};
 ghost use Rattle.net.specs.Clauses.{call};
