@@ -1,5 +1,6 @@
 // A question in a buffer that may hold its scan already: questions in a row about one node cost one scan.
 #![tactic(auto)]
+
 ghost use Rattle.std.specs.Prelude.{◌≡◌, ◌+◌, ◌<◌, ◌≤◌, length, drop};
 ghost use Rattle.theory.specs.Origins.{chosen, NetFrom};
 ghost use Rattle.net.specs.Clauses.{call};
