@@ -20,9 +20,6 @@ seek-i-requires c =
       room = omega (arith, c.loop-i.invariant.2, c.requires.room);
     }
 
-pub bounds-words-i : goal.bounds-words-i
-bounds-words-i c = omega (arith, c.if-i-end.true, c.loop-i.invariant.0)
-
 pub follow-requires : goal.follow-requires
 follow-requires c =
     record {
@@ -37,10 +34,6 @@ lanes_of-requires c =
       table = c.requires.table;
       origin = (inside_from_at c.args.words.now c.requires.inside c.seek-i.result (omega (arith, c.if-i-end.true, c.loop-i.invariant.0))).origin;
     }
-
-pub overflow_add-i : goal.overflow_add-i
-overflow_add-i c =
-    omega (arith, c.if-i-end.true, c.loop-i.invariant.0)
 
 pub loop-i-smaller-then-i-end : goal.loop-i-smaller-then-i-end
 loop-i-smaller-then-i-end c =

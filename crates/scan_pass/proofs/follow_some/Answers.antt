@@ -23,14 +23,6 @@ follow_blocks-requires c =
       room = omega (arith, c.loop-i.invariant.2, c.requires.room);
     }
 
-pub loop-i-preserved-then-has_sign : goal.loop-i-preserved-then-has_sign
-loop-i-preserved-then-has_sign c = (
-  omega (arith, c.loop-i.invariant.0),
-  omega (arith, c.loop-i-test.true, c.loop-i.invariant.0),
-  c.follow_blocks.auto.marks ∙ c.loop-i.invariant.2,
-  c.loop-i.invariant.3 ∙ c.follow_blocks.ensures,
-)
-
 pub loop-i-preserved : goal.loop-i-preserved
 loop-i-preserved c =
     let room : c.loop-i.i + 8 ≤ length c.args.words.now = omega (arith, c.loop-i-test.true, c.loop-i.invariant.0) in (
