@@ -1,5 +1,6 @@
 // The way along the distances, over the words that a set of origins chooses: the smallest next state at each step, one pass over the words for each, and the nodes written.
 #![tactic(auto)]
+
 ghost use Rattle.std.specs.Prelude.{◌≡◌, cond, [], ◌∷◌, ◌++◌, map, ◌+◌, ◌<◌, ◌≤◌, length, get_or, drop};
 ghost use Rattle.theory.specs.Words.{sign_at};
 ghost use Rattle.theory.specs.Reasons.{never};
