@@ -1,5 +1,6 @@
 // The trial of one word more: the node at which it makes a clash, and the kind there.
 #![tactic(auto)]
+
 ghost use Rattle.std.specs.Prelude.{◌≡◌, ◌&&◌, cond, ◌++◌, ◌+◌, ◌-◌, ◌<◌, ◌≤◌, length, drop};
 ghost use Rattle.theory.specs.Marks.{T, F, U, has};
 ghost use Rattle.theory.specs.Inside.{Ends, Inside};
