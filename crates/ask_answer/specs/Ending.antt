@@ -1,5 +1,5 @@
 -- The fields of a line, and those that end a question's.
-use Rattle.std.specs.Prelude.{ℕ, ◌+◌, List, [], ◌∷◌, ◌++◌}
+use Rattle.std.specs.Prelude.{ℕ, List, [], ◌∷◌, ◌++◌}
 use Rattle.net.specs.Table.{refusal_reply}
 use Rattle.text_field.specs.Decimal.{decimal}
 use Rattle.question.specs.declared.Answer.{Answer}

@@ -1,5 +1,6 @@
 // What follows x and y in a question's line: the answer and its count, or `refused` and a number.
 #![tactic(auto)]
+
 ghost use Rattle.std.specs.Prelude.{◌≤◌, ◌++◌, ◌∷◌, [], length};
 ghost use Rattle.text_field.specs.Writing.{Wrote};
 ghost use Rattle.ask_answer.specs.Ending.{answer_word, answer_fields};

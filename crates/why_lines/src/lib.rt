@@ -1,5 +1,6 @@
 // The text of a derivation: a line for each of its lines, into the front of what it is lent.
 #![tactic(auto)]
+
 ghost use Rattle.std.specs.Prelude.{◌*◌, ◌/◌, ◌≤◌, length};
 ghost use Rattle.text_field.specs.Writing.{Wrote};
 ghost use Rattle.derivation_lines.specs.Flat.{lines_of};
