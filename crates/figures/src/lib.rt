@@ -1,5 +1,6 @@
 // The figures of a net ([11]), or the number of its refusal.
 #![tactic(auto)]
+
 ghost use Rattle.std.specs.Prelude.{◌≡◌, ℕ, ◌+◌};
 ghost use Rattle.theory.specs.Origins.{chosen, NetFrom};
 ghost use Rattle.net.specs.Table.{check_net};
