@@ -1,5 +1,6 @@
 // The question that a scope asks before a mean goes on the screen, and the scan that answers it.
 #![tactic(auto)]
+
 ghost use Rattle.std.specs.Prelude.{◌≡◌, ◌+◌, ◌<◌, ◌≤◌, length, take, drop};
 ghost use Rattle.theory.specs.Scans.{full_scan};
 ghost use Rattle.theory.specs.Origins.{chosen, NetFrom};

@@ -1,5 +1,6 @@
 // A screenful of questions at once: a byte for each pair of nodes.
 #![tactic(auto)]
+
 ghost use Rattle.std.specs.Prelude.{◌≡◌, ◌+◌, ◌≤◌, length};
 ghost use Rattle.theory_laws.specs.Over.{over};
 ghost use Rattle.theory.specs.Origins.{chosen, NetFrom};

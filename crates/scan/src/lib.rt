@@ -1,5 +1,6 @@
 // The scan from a node within its budget: rounds until one sets nothing.
 #![tactic(auto)]
+
 ghost use Rattle.std.specs.Prelude.{◌≡◌, ◌≤◌};
 ghost use Rattle.theory.specs.Origins.{chosen, InsideFrom};
 ghost use Rattle.scan.specs.Table.{scan_outcome, scan_clauses, scan_done, scanned};

@@ -1,5 +1,6 @@
 // The bytes of all nodes, written for a pass over the links, and folded after it: the loops between two passes.
 #![tactic(auto)]
+
 ghost use Rattle.std.specs.Prelude.{◌≡◌, ℕ, ◌<◌, ◌≤◌, length};
 ghost use Rattle.scan_start.specs.Starts.{Low};
 ghost use Rattle.scan_lanes.specs.Codes.{on_nodes, is_code, is_marks, isnt_code, isnt_marks, NoneNew};

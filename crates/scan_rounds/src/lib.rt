@@ -1,5 +1,6 @@
 // Rounds within a budget.
 #![tactic(auto)]
+
 ghost use Rattle.std.specs.Prelude.{◌≡◌, false, ◌≤◌, length};
 ghost use Rattle.theory.specs.Marks.{commands};
 ghost use Rattle.theory.specs.Scans.{rounds};

@@ -1,7 +1,6 @@
 -- A bad pair leaves all as it is, and any other is answered from the scan that stands there after `hold`.
 use mathlib.Core.Path.{refl, sym, ◌∙◌}
 use native.Mathlib.Omega.{arith}
-use borrow.Author.Rules.{rules}
 use Rattle.theory.specs.Origins.{chosen}
 use Rattle.net.proofs.Good.{good_pair}
 use Rattle.question.proofs.Outcomes.{ask_bad, ask_done}

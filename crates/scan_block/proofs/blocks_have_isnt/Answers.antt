@@ -1,9 +1,4 @@
-use Prim.Native.Nat.{◌-◌, ◌%◌, ◌≤◌}
-use mathlib.Core.Path.{◌≡◌, sym}
 use native.Mathlib.Omega.{arith}
-use borrow.Author.Rules.{rules}
-use Rattle.theory_laws.proofs.Booleans.{contradiction}
-use Rattle.scan_block.specs.Signs.{NoIsnt}
 use Rattle.scan_block.proofs.Blocks.{no_isnt_block}
 use Rattle.scan_block.proofs.blocks_have_isnt.Goals as goal
 

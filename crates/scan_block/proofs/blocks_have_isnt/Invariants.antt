@@ -1,11 +1,7 @@
 -- None of the words of the blocks that the loop has passed says "is not".
 use Prim.Native.Nat.{◌-◌, ◌%◌, ◌≤◌}
-use mathlib.Core.Path.{◌≡◌, sym}
-use native.Mathlib.Omega.{arith}
-use borrow.Author.Rules.{rules}
-use Rattle.theory_laws.proofs.Booleans.{contradiction}
+use mathlib.Core.Path.{◌≡◌}
 use Rattle.scan_block.specs.Signs.{NoIsnt}
-use Rattle.scan_block.proofs.Blocks.{no_isnt_block}
 use Rattle.scan_block.proofs.blocks_have_isnt.Given as goal
 
 abbrev pub invariant-loop-i : goal.invariant-loop-i

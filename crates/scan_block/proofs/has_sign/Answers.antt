@@ -1,7 +1,5 @@
 -- A word's sign is 0 or 1.
-use mathlib.Core.Path.{◌∙◌}
 use native.Mathlib.Omega.{arith}
-use borrow.Author.Rules.{rules}
 use Rattle.scan_block.proofs.has_sign.Goals as goal
 
 pub returns-then-sign-eq-IS : goal.returns-then-sign-eq-IS

@@ -1,8 +1,6 @@
 -- The loop looks at whole blocks, and counts no more of them than there are words.
-use Prim.Native.Nat.{◌+◌, ◌-◌, ◌%◌, ◌≤◌}
+use Prim.Native.Nat.{◌-◌, ◌%◌, ◌≤◌}
 use mathlib.Core.Path.{◌≡◌}
-use native.Mathlib.Omega.{arith}
-use borrow.Author.Rules.{rules}
 use Rattle.scan_block.proofs.is_rare.Given as goal
 
 abbrev pub invariant-loop-from : goal.invariant-loop-from

@@ -1,10 +1,4 @@
-use Prim.Native.Nat.{◌-◌, ◌≤◌}
-use mathlib.Core.Path.{sym}
 use native.Mathlib.Omega.{arith}
-use borrow.Author.Rules.{rules}
-use lib.ListN.{length}
-use Rattle.theory_laws.proofs.Booleans.{contradiction}
-use Rattle.scan_block.specs.Signs.{NoIsnt}
 use Rattle.scan_block.proofs.Blocks.{no_isnt_more}
 use Rattle.scan_block.proofs.rest_has_isnt.Goals as goal
 

@@ -1,12 +1,7 @@
 -- None of the words that the loop has passed says "is not", if none before them does.
 use Prim.Native.Nat.{◌-◌, ◌≤◌}
-use mathlib.Core.Path.{sym}
-use native.Mathlib.Omega.{arith}
-use borrow.Author.Rules.{rules}
 use lib.ListN.{length}
-use Rattle.theory_laws.proofs.Booleans.{contradiction}
 use Rattle.scan_block.specs.Signs.{NoIsnt}
-use Rattle.scan_block.proofs.Blocks.{no_isnt_more}
 use Rattle.scan_block.proofs.rest_has_isnt.Given as goal
 
 abbrev pub invariant-loop-i : goal.invariant-loop-i

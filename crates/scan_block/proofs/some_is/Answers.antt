@@ -1,10 +1,6 @@
-use Prim.Native.Nat.{◌-◌, ◌%◌, ◌≤◌}
-use mathlib.Core.Path.{◌≡◌}
+use Prim.Native.Nat.{◌%◌}
 use native.Mathlib.Omega.{arith}
-use borrow.Author.Rules.{rules}
 use borrow.Author.Tests.{eqb-false}
-use Rattle.theory.specs.Words.{parity}
-use Rattle.scan_block.specs.Signs.{None}
 use Rattle.scan_block.proofs.Blocks.{is_more}
 use Rattle.scan_block.proofs.some_is.Goals as goal
 

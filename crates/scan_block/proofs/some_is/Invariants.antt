@@ -1,12 +1,8 @@
 -- Where the number is odd, no word so far says "is".
-use Prim.Native.Nat.{◌-◌, ◌%◌, ◌≤◌}
+use Prim.Native.Nat.{◌-◌, ◌≤◌}
 use mathlib.Core.Path.{◌≡◌}
-use native.Mathlib.Omega.{arith}
-use borrow.Author.Rules.{rules}
-use borrow.Author.Tests.{eqb-false}
 use Rattle.theory.specs.Words.{parity}
 use Rattle.scan_block.specs.Signs.{None}
-use Rattle.scan_block.proofs.Blocks.{is_more}
 use Rattle.scan_block.proofs.some_is.Given as goal
 
 abbrev pub invariant-loop-k : goal.invariant-loop-k

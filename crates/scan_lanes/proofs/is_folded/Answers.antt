@@ -1,5 +1,4 @@
 -- The table of all bytes.
-use borrow.Author.Rules.{rules}
 use native.Mathlib.Omega.{arith}
 use Rattle.scan_lanes.proofs.Bytes.{is_folded}
 use Rattle.scan_lanes.proofs.is_folded.Goals as goal

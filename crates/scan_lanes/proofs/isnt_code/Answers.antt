@@ -1,5 +1,4 @@
 -- The table of all bytes.
-use borrow.Author.Rules.{rules}
 use native.Mathlib.Omega.{arith}
 use Rattle.scan_lanes.proofs.Bytes.{isnt_code_lem}
 use Rattle.scan_lanes.proofs.isnt_code.Goals as goal

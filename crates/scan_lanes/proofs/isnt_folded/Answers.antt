@@ -1,5 +1,4 @@
 use mathlib.Core.Path.{◌∙◌}
-use borrow.Author.Rules.{rules}
 use native.Mathlib.Omega.{arith}
 use Rattle.scan_lanes.proofs.Bytes.{isnt_folded}
 use Rattle.scan_lanes.proofs.isnt_folded.Goals as goal

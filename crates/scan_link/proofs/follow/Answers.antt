@@ -1,5 +1,4 @@
 -- The word opens some lanes, and their marks are put, or none, and nothing is done.
-use borrow.Author.Rules.{rules}
 use native.Mathlib.Omega.{arith}
 use lib.ListN.{length-set}
 use Rattle.scan_link.proofs.Following.{head_inside, found_few, follow_idle, follow_puts}

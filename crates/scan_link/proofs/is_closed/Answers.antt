@@ -1,5 +1,4 @@
 -- Where the two bytes have no lane in common, the word does nothing.
-use borrow.Author.Rules.{rules}
 use borrow.Author.Tests.{eqb-true}
 use Rattle.scan_link.proofs.Following.{closed_idle}
 use Rattle.scan_link.proofs.is_closed.Goals as goal

@@ -1,11 +1,8 @@
 -- The list is right at the classes below i.
 use Prim.Native.Nat.{ℕ, ◌-◌, ◌<◌, ◌≤◌}
-use mathlib.Core.Path.{◌≡◌, refl}
-use borrow.Author.Rules.{rules}
-use native.Mathlib.Omega.{arith}
-use lib.ListN.{length, get_or, length-set}
+use mathlib.Core.Path.{◌≡◌}
+use lib.ListN.{length, get_or}
 use Rattle.scan_link.specs.Classes.{word_in, lanes_for}
-use Rattle.scan_link.proofs.Classes.{table_more, table_all}
 use Rattle.scan_link.proofs.table_of.Given as goal
 
 abbrev pub invariant-loop-i : goal.invariant-loop-i

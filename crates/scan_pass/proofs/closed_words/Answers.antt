@@ -1,10 +1,7 @@
-use Prim.Native.Nat.{◌+◌, ◌-◌, ◌≤◌}
+use Prim.Native.Nat.{◌+◌}
 use mathlib.Core.Path.{◌≡◌, refl, sym}
-use borrow.Author.Rules.{rules}
-use borrow.Author.Tests.{not-false}
 use native.Mathlib.Omega.{arith}
 use Rattle.theory.proofs.origins.Statements.{inside_from_at}
-use Rattle.scan_pass.specs.Idle.{Idle}
 use Rattle.scan_pass.proofs.Links.{lane_more}
 use Rattle.scan_pass.proofs.closed_words.Goals as goal
 

@@ -1,12 +1,6 @@
 -- The words of the block up to the one that the loop has come to do nothing.
 use Prim.Native.Nat.{◌+◌, ◌-◌, ◌≤◌}
-use mathlib.Core.Path.{◌≡◌, refl, sym}
-use borrow.Author.Rules.{rules}
-use borrow.Author.Tests.{not-false}
-use native.Mathlib.Omega.{arith}
-use Rattle.theory.proofs.origins.Statements.{inside_from_at}
 use Rattle.scan_pass.specs.Idle.{Idle}
-use Rattle.scan_pass.proofs.Links.{lane_more}
 use Rattle.scan_pass.proofs.closed_words.Given as goal
 
 abbrev pub invariant-loop-k : goal.invariant-loop-k

@@ -1,7 +1,6 @@
 -- The words with an open lane, then the blocks and then the rest are all words.
 use mathlib.Core.Path.{sym, ◌∙◌}
 use native.Mathlib.Omega.{arith}
-use borrow.Author.Rules.{rules}
 use Rattle.scan_pass.proofs.follow_all.Goals as goal
 
 pub follow_blocks-requires : goal.follow_blocks-requires

@@ -1,10 +1,5 @@
-use Prim.Native.Nat.{◌+◌, ◌-◌, ◌%◌, ◌≤◌}
 use mathlib.Core.Path.{◌≡◌, refl, ◌∙◌}
-use borrow.Author.Rules.{rules}
 use native.Mathlib.Omega.{arith}
-use lib.ListN.{length, drop}
-use Rattle.theory.specs.Origins.{chosen}
-use Rattle.scan_lanes.specs.Lanes.{lane_pass}
 use Rattle.scan_pass.proofs.follow_blocks.Goals as goal
 
 pub loop-i-init : goal.loop-i-init

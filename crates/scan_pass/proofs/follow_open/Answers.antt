@@ -1,11 +1,8 @@
-use Prim.Native.Nat.{◌-◌, ◌<◌, ◌≤◌}
-use mathlib.Core.Path.{◌≡◌, refl, ◌∙◌}
-use borrow.Author.Rules.{rules}
+use Prim.Native.Nat.{◌<◌}
+use mathlib.Core.Path.{refl, ◌∙◌}
 use native.Mathlib.Omega.{arith}
-use lib.ListN.{length, drop}
-use Rattle.theory.specs.Origins.{chosen}
+use lib.ListN.{length}
 use Rattle.theory.proofs.origins.Statements.{inside_from_at}
-use Rattle.scan_lanes.specs.Lanes.{lane_pass}
 use Rattle.scan_pass.proofs.Links.{lane_more}
 use Rattle.scan_pass.proofs.follow_open.Goals as goal
 

@@ -1,11 +1,6 @@
-use Prim.Native.Nat.{◌-◌, ◌≤◌}
-use mathlib.Core.Path.{◌≡◌, refl, sym, ◌∙◌}
-use borrow.Author.Rules.{rules}
+use mathlib.Core.Path.{refl, sym, ◌∙◌}
 use native.Mathlib.Omega.{arith}
-use lib.ListN.{length, drop}
-use Rattle.theory.specs.Origins.{chosen}
 use Rattle.theory.proofs.origins.Statements.{inside_from_at}
-use Rattle.scan_lanes.specs.Lanes.{lane_pass}
 use Rattle.scan_pass.proofs.Links.{lane_more, lane_end}
 use Rattle.scan_pass.proofs.follow_rest.Goals as goal
 

@@ -1,13 +1,9 @@
 -- The words up to the one that the loop has come to were followed.
 use Prim.Native.Nat.{◌-◌, ◌≤◌}
-use mathlib.Core.Path.{◌≡◌, refl, sym, ◌∙◌}
-use borrow.Author.Rules.{rules}
-use native.Mathlib.Omega.{arith}
+use mathlib.Core.Path.{◌≡◌}
 use lib.ListN.{length, drop}
 use Rattle.theory.specs.Origins.{chosen}
-use Rattle.theory.proofs.origins.Statements.{inside_from_at}
 use Rattle.scan_lanes.specs.Lanes.{lane_pass}
-use Rattle.scan_pass.proofs.Links.{lane_more, lane_end}
 use Rattle.scan_pass.proofs.follow_rest.Given as goal
 
 abbrev pub invariant-loop-i : goal.invariant-loop-i

@@ -1,10 +1,7 @@
-use Prim.Native.Nat.{◌+◌, ◌-◌, ◌%◌, ◌≤◌}
-use mathlib.Core.Path.{◌≡◌, refl, sym, ◌∙◌}
-use borrow.Author.Rules.{rules}
+use Prim.Native.Nat.{◌+◌, ◌≤◌}
+use mathlib.Core.Path.{refl, sym, ◌∙◌}
 use native.Mathlib.Omega.{arith}
-use lib.ListN.{length, drop}
-use Rattle.theory.specs.Origins.{chosen}
-use Rattle.scan_lanes.specs.Lanes.{lane_pass}
+use lib.ListN.{length}
 use Rattle.scan_pass.proofs.Passed.{words_passed}
 use Rattle.scan_pass.proofs.follow_some.Goals as goal
 

@@ -1,12 +1,9 @@
 -- The words up to the block that the loop has come to were followed, or could do nothing.
-use Prim.Native.Nat.{◌+◌, ◌-◌, ◌%◌, ◌≤◌}
-use mathlib.Core.Path.{◌≡◌, refl, sym, ◌∙◌}
-use borrow.Author.Rules.{rules}
-use native.Mathlib.Omega.{arith}
+use Prim.Native.Nat.{◌-◌, ◌%◌, ◌≤◌}
+use mathlib.Core.Path.{◌≡◌}
 use lib.ListN.{length, drop}
 use Rattle.theory.specs.Origins.{chosen}
 use Rattle.scan_lanes.specs.Lanes.{lane_pass}
-use Rattle.scan_pass.proofs.Passed.{words_passed}
 use Rattle.scan_pass.proofs.follow_some.Given as goal
 
 abbrev pub invariant-loop-i : goal.invariant-loop-i

@@ -1,8 +1,5 @@
 -- The words from the first one up to the one that the loop has come to do nothing.
-use Prim.Native.Nat.{ℕ, ◌+◌, ◌-◌, ◌<◌, ◌≤◌}
-use mathlib.Core.Path.{refl, ◌∙◌}
-use mathlib.Core.List.{List}
-use native.Mathlib.Omega.{arith}
+use Prim.Native.Nat.{◌-◌, ◌≤◌}
 use lib.ListN.{length}
 use Rattle.scan_pass.specs.Idle.{Idle}
 use Rattle.scan_pass.proofs.seek.Given as goal

@@ -1,5 +1,7 @@
 -- The two passes are the round, and the second is left out only where its commands are quiet.
-use borrow.Author.Rules.{rules}
+use mathlib.Core.Path.{◌≡◌, ap}
+use mathlib.Core.Bool.{false, not, ◌&&◌, ◌||◌}
+use Rattle.theory.specs.Marks.{has}
 use Rattle.scan_lanes.specs.Passes.{is_commands}
 use Rattle.scan_lanes.proofs.Machine.{puts_is}
 use Rattle.scan_round.proofs.Turns.{ran_room, ran_written, round_passed, round_run}
@@ -16,9 +18,10 @@ run_is-new-requires c =
 
 pub returns-then-not-first-came : goal.returns-then-not-first-came
 returns-then-not-first-came c =
+    let idle : ((c.args.first || has 6 c.run_is-new.result) && c.args.signs.isnts) ≡ false = cc in
     let t =
     round_passed c.args.n c.args.set c.args.words.now c.args.marks.now c.requires.inside c.requires.room c.run_is-new.new.marks c.run_is-new.ensures.marks_after c.run_is-new.result c.run_is-new.ensures.decides
-    c.args.first c.args.signs.isnts c.requires.isnts c.requires.passed c.run_is-new.ensures.v_value c.if-not-first-came.true-raw in
+    c.args.first c.args.signs.isnts c.requires.isnts c.requires.passed c.run_is-new.ensures.v_value (ap not idle) in
     record { marks_after = t.0; set = t.1.0; quiet = t.1.1 }
 
 pub run_isnt-crossed-requires : goal.run_isnt-crossed-requires

@@ -1,5 +1,4 @@
 -- The pass over "is", folded, is the first three commands of a round.
-use borrow.Author.Rules.{rules}
 use Rattle.scan_round.proofs.Running.{ran_is}
 use Rattle.scan_round.proofs.run_is.Goals as goal
 

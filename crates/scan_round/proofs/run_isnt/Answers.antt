@@ -1,6 +1,5 @@
 -- The bytes written for it, the pass over "is not", folded, is the last two commands of a round.
 use native.Mathlib.Omega.{arith}
-use borrow.Author.Rules.{rules}
 use Rattle.scan_round.proofs.Running.{ran_isnt}
 use Rattle.scan_round.proofs.run_isnt.Goals as goal
 

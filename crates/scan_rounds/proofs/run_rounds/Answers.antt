@@ -24,7 +24,7 @@ returns c =
     let x = r.new.marks in
     record {
       marks_value =
-        plain_rounds c.args.n c.args.marks.now e.new.marks x b.new.marks b.ensures commands (chosen c.args.set c.args.words.now) c.args.budget
-        r.result.done r.result.count c.requires.low e.ensures r.ensures;
+          plain_rounds c.args.n c.args.marks.now e.new.marks x b.new.marks b.ensures commands (chosen c.args.set c.args.words.now) c.args.budget
+          r.result.done r.result.count c.requires.low e.ensures r.ensures;
       low_2 = plain_low c.args.n c.args.marks.now e.new.marks x b.new.marks b.ensures (omega arith);
     }

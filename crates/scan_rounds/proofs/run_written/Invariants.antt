@@ -16,7 +16,7 @@ abbrev pub invariant-loop-count : goal.invariant-loop-count
 invariant-loop-count l =
     (l.count ≤ l.budget) × (length l.marks ≡ length l.initial.marks)
     × (rounds commands (chosen l.set l.words) 0 l.budget (marks_of l.n l.initial.marks)
-        ≡ rounds commands (chosen l.set l.words) l.count (l.budget - l.count) (marks_of l.n l.marks))
+    ≡ rounds commands (chosen l.set l.words) l.count (l.budget - l.count) (marks_of l.n l.marks))
     × Written l.n l.marks
     × (eqb l.count 0 ≡ false → Quiet isnt_commands (chosen l.set l.words) (marks_of l.n l.marks))
 
