@@ -1,5 +1,6 @@
 // The shortest reason for a statement, over the words that a set of origins chooses: distances level by level from its end, then the smallest next state at each step.
 #![tactic(auto)]
+
 ghost use Rattle.std.specs.Prelude.{◌≡◌, List, ◌∷◌, ℕ, ◌+◌, ◌<◌, ◌≤◌, length, drop};
 ghost use Rattle.theory.specs.Words.{sign_at};
 ghost use Rattle.theory.specs.Origins.{chosen, NetFrom};
