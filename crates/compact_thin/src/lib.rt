@@ -1,5 +1,6 @@
 // The words of a list from the highest down: each that the words still present support without it is taken out.
 #![tactic(auto)]
+
 ghost use Rattle.std.specs.Prelude.{◌≡◌, cond, ◌++◌, ◌+◌, ◌-◌, ◌<◌, ◌≤◌, length, get_or, take, drop};
 ghost use Rattle.theory.specs.Nets.{Net, LegalWord};
 ghost use Rattle.theory.specs.Compaction.{without, supports, thin};
