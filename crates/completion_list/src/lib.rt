@@ -1,5 +1,6 @@
 // The completed list: each node's row, counted, and written one after another.
 #![tactic(auto)]
+
 ghost use Rattle.std.specs.Prelude.{◌≡◌, ◌+◌, ◌≤◌, length, drop};
 ghost use Rattle.theory_laws.specs.Over.{over};
 ghost use Rattle.theory.specs.Origins.{chosen, NetFrom};
