@@ -1,5 +1,6 @@
 // The writer of one line of `ask`'s text, into the front of what it is lent.
 #![tactic(auto)]
+
 ghost use Rattle.std.specs.Prelude.{◌+◌, ◌<◌, ◌≤◌, ◌++◌, ◌∷◌, [], length};
 ghost use Rattle.text_field.specs.Writing.{Wrote};
 ghost use Rattle.text_field.specs.Decimal.{decimal};
