@@ -1,5 +1,6 @@
 // The clash test, which a scope runs at boot.
 #![tactic(auto)]
+
 ghost use Rattle.std.specs.Prelude.{◌≡◌, ◌+◌, ◌-◌, ◌≤◌, length, drop};
 ghost use Rattle.theory.specs.Origins.{chosen, NetFrom};
 ghost use Rattle.clash.specs.Table.{clash_outcome, first_both, clash_search, clash_clauses, clash_done, clashed_by};
