@@ -1,5 +1,6 @@
 // Completion: every supported word of a net, ascending, into the lent list.
 #![tactic(auto)]
+
 ghost use Rattle.std.specs.Prelude.{◌≡◌, ◌+◌, ◌≤◌, length};
 ghost use Rattle.theory.specs.Origins.{chosen, NetFrom};
 ghost use Rattle.theory.specs.Completion.{complete};
