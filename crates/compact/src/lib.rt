@@ -1,5 +1,6 @@
 // Compaction: a lent list is sorted where it stands, and loses repeats and the words that the others support.
 #![tactic(auto)]
+
 ghost use Rattle.std.specs.Prelude.{◌≡◌, ◌++◌, ◌+◌, ◌-◌, ◌≤◌, length, take, replicate};
 ghost use Rattle.theory.specs.Nets.{Net};
 ghost use Rattle.theory.specs.Compaction.{compacted};
