@@ -1,5 +1,6 @@
 // The text for a net: a line for each question, or its number, the index and the cause.
 #![tactic(auto)]
+
 ghost use Rattle.std.specs.Prelude.{ℕ, ◌*◌, ◌/◌, ◌≤◌, ◌≡◌, length};
 ghost use Rattle.net.specs.Table.{check_net};
 ghost use Rattle.net.specs.declared.Checked.TheVariants.{Nodes};
