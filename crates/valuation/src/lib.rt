@@ -1,5 +1,6 @@
 // The net's own valuation, written into a lent table: what a none is shown by.
 #![tactic(auto)]
+
 ghost use Rattle.std.specs.Prelude.{◌≡◌, ◌+◌, ◌-◌, ◌*◌, ◌≤◌, length, drop};
 ghost use Rattle.theory_laws.specs.Over.{over};
 ghost use Rattle.theory.specs.Origins.{chosen, NetFrom};
