@@ -1,5 +1,6 @@
 // The derivation of what a path without repeats shows, written as numbers.
 #![tactic(auto)]
+
 ghost use Rattle.std.specs.Prelude.{◌≡◌, ◌+◌, ◌-◌, ◌*◌, ◌≤◌, ◌<◌, length, get_or, drop};
 ghost use Rattle.derivation_lines.specs.Known.{KnownWords};
 ghost use Rattle.derivation_lines.specs.Deriving.{climb, rise, sink, swing};
