@@ -1,5 +1,6 @@
 // Whether a statement holds in a lent valuation: the test that anybody may run on a table from anybody.
 #![tactic(auto)]
+
 ghost use Rattle.std.specs.Prelude.{◌≡◌, ◌+◌, ◌*◌, ◌<◌, ◌≤◌, length};
 ghost use Rattle.theory.specs.Words.{sign_at};
 ghost use Rattle.theory.specs.Marks.{T, F, has};
