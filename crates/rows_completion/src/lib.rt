@@ -1,5 +1,6 @@
 // Completion by rows ([6]): every supported word of a net, ascending, into the lent list, and the rows left with exactly what the net supports.
 #![tactic(auto)]
+
 ghost use Rattle.std.specs.Prelude.{◌≡◌, ◌+◌};
 ghost use Rattle.theory.specs.Origins.{chosen, NetFrom};
 ghost use Rattle.net.specs.Clauses.{call};
