@@ -1,5 +1,6 @@
 // One word tried beside those kept so far, and all words in listed order.
 #![tactic(auto)]
+
 ghost use Rattle.std.specs.Prelude.{◌≡◌, cond, [], ◌∷◌, ◌++◌, ◌+◌, ◌*◌, ◌<◌, ◌≤◌, ltb, length, take, drop, set};
 ghost use Rattle.theory_laws.specs.Over.{over};
 ghost use Rattle.theory.specs.Inside.{Ends, Inside};
