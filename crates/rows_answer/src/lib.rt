@@ -1,5 +1,6 @@
 // The answer to a question from rows that a completion left ([6]): two bits tell it. Nothing is written.
 #![tactic(auto)]
+
 ghost use Rattle.std.specs.Prelude.{◌≡◌};
 ghost use Rattle.rows_answer.specs.Table.{answer_of_bits, answered_in_rows};
 
