@@ -1,5 +1,6 @@
 // The whole text of `ask`: what it prints for a file.
 #![tactic(auto)]
+
 ghost use Rattle.std.specs.Prelude.{◌*◌, ◌/◌, ◌≤◌, ◌≡◌, ◌++◌, length, drop};
 ghost use Rattle.netfile.specs.Contents.{file_limit};
 ghost use Rattle.text_field.specs.Writing.{Wrote};
