@@ -1,13 +1,13 @@
 -- What the reason gives decides the whole outcome: its refusals are passed on, no room for it means a proof that is too deep, and its path is turned
 -- into our list.
-use Prim.Native.Nat.{ℕ, zero, suc, ◌+◌, ◌-◌, ◌≤◌, ◌<◌}
+use Prim.Native.Nat.{ℕ, ◌+◌, ◌-◌, ◌≤◌, ◌<◌}
 use mathlib.Core.Path.{◌≡◌, refl, sym, subst, ap, ◌∙◌}
 use mathlib.Core.Bool.{Bool, true, false, cond}
 use mathlib.Core.List.{List, [], ◌∷◌, ◌++◌}
 use mathlib.Core.Logic.{◌⊎◌, inl, inr}
 use native.Mathlib.Omega.{arith}
 use lib.Dec.{eqb, ltb}
-use lib.ListN.{length, get_or, take, drop, length-append, length-take}
+use lib.ListN.{length, take, drop, length-append, length-take}
 use lib.Seq.{take_at}
 use borrow.Author.Tests.{eqb-false, ltb-true, ltb-false, lt-ltb}
 use Rattle.theory_laws.proofs.Booleans.{cond_same}
@@ -17,7 +17,7 @@ use Rattle.theory.specs.Origins.{chosen, NetFrom}
 use Rattle.theory.specs.ProofFiles.{depth_limit, Proves}
 use Rattle.theory.proofs.origins.Statements.{chosen_net}
 use Rattle.theory.proofs.reason.Distances.{distances_small}
-use Rattle.theory.proofs.reason.Reason.{Reason, reason_length, reason_shortest}
+use Rattle.theory.proofs.reason.Reason.{reason_length, reason_shortest}
 use Rattle.net.specs.Clauses.{Clause, clause, call}
 use Rattle.net.specs.Table.{net_clauses, check_net, bad_statement}
 use Rattle.net.specs.Good.{GoodStatement}

@@ -10,7 +10,7 @@ use Rattle.theory.specs.Nets.{Kind, Links, Net}
 use Rattle.theory.specs.Reasons.{Strict, Shortest, written, never}
 use Rattle.theory.specs.Support.{Supported}
 use Rattle.theory.specs.ProofFiles.{depth_limit, Proves}
-use Rattle.theory.proofs.reason.Reason.{Reason, reason_length, reason_shortest, reason_exactly}
+use Rattle.theory.proofs.reason.Reason.{reason_length, reason_shortest, reason_exactly}
 use Rattle.proof_form.specs.Checker.{check_proof}
 use Rattle.proof_form.specs.Ours.{our_file, our_depth}
 use Rattle.proof_form.specs.FromReason.{from_reason}

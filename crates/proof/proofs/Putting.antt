@@ -1,15 +1,14 @@
 -- A list put in its place, or the room that it needs: return by return.
 use Prim.Native.Nat.{ℕ, zero, suc, ◌+◌, ◌-◌, ◌*◌, ◌≤◌, ◌<◌}
 use mathlib.Core.Path.{◌≡◌, refl, sym, ap, ◌∙◌}
-use mathlib.Core.Bool.{Bool, true, false, cond}
 use mathlib.Core.List.{List, [], ◌∷◌}
 use native.Mathlib.Omega.{arith}
 use native.Mathlib.Decide.{dec_lt}
-use lib.Dec.{eqb, ltb}
+use lib.Dec.{ltb}
 use lib.ListN.{length, get_or}
 use borrow.Author.Tests.{eq-eqb, ne_eqb, lt-ltb, le-ltb}
 use Rattle.theory_laws.specs.Over.{over}
-use Rattle.theory.specs.Words.{is, isnt, word, sign_at, sign_number}
+use Rattle.theory.specs.Words.{sign_at, sign_number}
 use Rattle.theory.specs.ProofFiles.{depth_limit}
 use Rattle.proof_form.specs.Ours.{chain_file, our_depth}
 use Rattle.proof_form.specs.FromReason.{hops_from, start_at, from_reason}

@@ -14,7 +14,7 @@ use Rattle.proof_form.specs.Ours.{chain_file, use_steps, close_steps, nested, ou
 use Rattle.proof_form.specs.FromReason.{hops_from, from_reason}
 use Rattle.proof_form.proofs.Readings.{zero_five, two_five}
 use Rattle.proof.specs.Table.{proof_outcome, proved}
-use Rattle.proof.specs.declared.Proved.TheVariants.{Done, Unsupported, TooDeep, Short, Refused}
+use Rattle.proof.specs.declared.Proved.TheVariants.{Done, Unsupported, Short, Refused}
 
 -- M, 0 ↛ 5: thirty numbers; what stands past them, and past 2N places of the scratch, stays as it was.
 pub proof_of_m : proved 2 4 M 15 0 5 1 (replicate 13 7) (replicate 31 9)

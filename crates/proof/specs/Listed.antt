@@ -5,7 +5,7 @@ use Rattle.net.specs.Clauses.{call}
 use Rattle.proof_form.specs.Ours.{chain_file, our_depth}
 use Rattle.proof_form.specs.FromReason.{hops_from, start_at, from_reason}
 use Rattle.proof.specs.Table.{ProofOutcome, proof_outcome, room_clauses, room_done}
-use Rattle.proof.specs.declared.Proved.TheVariants.{Done, TooDeep, Short}
+use Rattle.proof.specs.declared.Proved.TheVariants.{TooDeep, Short}
 
 -- Numbers 8 and 0 for the list `all`.
 abbrev pub put : List ℕ → List ℕ → List ℕ → ProofOutcome

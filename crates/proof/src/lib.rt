@@ -1,5 +1,6 @@
 // Our proof of a statement, by the words that a set of origins chooses: the shortest reason is found, and its links are turned into steps.
 #![tactic(auto)]
+
 ghost use Rattle.std.specs.Prelude.{◌≡◌, List, ℕ, ◌+◌, ◌≤◌, ◌<◌, length};
 ghost use Rattle.theory.specs.Origins.{chosen};
 ghost use Rattle.proof_form.specs.FromReason.{start_at};
