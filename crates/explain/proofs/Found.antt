@@ -1,5 +1,5 @@
 -- What a reason that is found leaves: a list of its shape, over a net that passed the check.
-use Prim.Native.Nat.{ℕ, suc, ◌+◌, ◌-◌, ◌*◌, ◌≤◌, ◌<◌}
+use Prim.Native.Nat.{ℕ, suc, ◌+◌, ◌*◌, ◌≤◌, ◌<◌}
 use mathlib.Core.Path.{◌≡◌, refl, sym, ap, ◌∙◌}
 use mathlib.Core.Bool.{Bool, true, false, cond, ◌||◌}
 use mathlib.Core.List.{List, [], ◌∷◌, ◌++◌}
@@ -29,7 +29,6 @@ use Rattle.net.proofs.Good.{good_statement, good_kind}
 use Rattle.reason.specs.Table.{ReasonOutcome, reason_outcome, filled, reason_of, reason_clauses, reason_done, reason_table, reasoned}
 use Rattle.reason.specs.declared.Reasoned.{Reasoned}
 use Rattle.reason.specs.declared.Reasoned.TheVariants.{Done, Unsupported, Short, Refused}
-use Rattle.derivation_lines.specs.Lines.{Line}
 use Rattle.derivation_lines.specs.Flat.{flat, derive_list}
 use Rattle.derivation_lines.proofs.Known.{net_known}
 use Rattle.explain.specs.Shape.{Shaped}

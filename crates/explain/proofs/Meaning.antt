@@ -15,7 +15,7 @@ use Rattle.theory.specs.Origins.{set_limit, chosen, NetFrom}
 use Rattle.theory.proofs.origins.Statements.{chosen_net}
 use Rattle.net.specs.Good.{GoodStatement}
 use Rattle.net.proofs.Good.{good_kind}
-use Rattle.reason.specs.Table.{reason_outcome, reason_of, reasoned}
+use Rattle.reason.specs.Table.{reason_outcome, reasoned}
 use Rattle.reason.specs.declared.Reasoned.{Reasoned}
 use Rattle.reason.specs.declared.Reasoned.TheVariants as found
 use Rattle.derivation_lines.specs.Lines.{Line, Derives}
@@ -24,7 +24,7 @@ use Rattle.derivation_lines.proofs.Flatness.{flat_length}
 use Rattle.derivation_lines.proofs.ReasonLines.{derivation_back, reason_derives, reason_lines}
 use Rattle.explain.specs.Table.{ExplainOutcome, explain_outcome, explaining, explained}
 use Rattle.explain.specs.Found.{explained_by}
-use Rattle.explain.specs.declared.Explained.TheVariants.{Done, Unsupported, ShortLines, Refused}
+use Rattle.explain.specs.declared.Explained.TheVariants.{Done, ShortLines}
 use Rattle.explain.proofs.Found.{done_found, explained_by_lem}
 
 -- The first `places` numbers of l are lines that derive the statement, at most two for each link of the shortest reason and one more.

@@ -1,5 +1,6 @@
 // The shortest reason for a statement by the words that a set of origins chooses, and its derivation line by line.
 #![tactic(auto)]
+
 ghost use Rattle.std.specs.Prelude.{◌≡◌, List, ℕ, ◌+◌, ◌*◌, ◌≤◌, ◌<◌, length, get_or, take, drop};
 ghost use Rattle.derivation_lines.specs.Known.{KnownWords};
 ghost use Rattle.derivation_lines.specs.Deriving.{cross_size, derive, derived_size};
