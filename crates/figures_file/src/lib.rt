@@ -1,5 +1,6 @@
 // The figures of a net file ([11]), or the number of its refusal.
 #![tactic(auto)]
+
 ghost use Rattle.std.specs.Prelude.{◌≡◌, ◌≤◌, length};
 ghost use Rattle.netfile.specs.Contents.{file_limit};
 ghost use Rattle.figures_file.specs.Files.{figured_bodies, figured_file};
