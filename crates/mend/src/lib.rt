@@ -1,5 +1,6 @@
 // Mending: the words are read in listed order, and each is kept if those kept so far have no clash together with it.
 #![tactic(auto)]
+
 ghost use Rattle.std.specs.Prelude.{◌≡◌, ◌||◌, [], ◌+◌, ◌/◌, ltb};
 ghost use Rattle.theory.specs.Nets.{Net};
 ghost use Rattle.theory.specs.Mending.{kept_from, dropped_from};
