@@ -2,7 +2,6 @@ use mathlib.Core.Path.{refl}
 use borrow.Author.Rules.{rules}
 use native.Mathlib.Omega.{arith}
 use lib.ListN.{length-set}
-use Rattle.scan_link.specs.Classes.{word_in, lanes_for}
 use Rattle.scan_link.proofs.Classes.{table_more, table_all}
 use Rattle.scan_link.proofs.table_of.Goals as goal
 
