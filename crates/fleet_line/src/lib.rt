@@ -1,5 +1,6 @@
 // The writers of the lines of the sheet of `fleet` ([11]), each into the front of what it is lent.
 #![tactic(auto)]
+
 ghost use Rattle.std.specs.Prelude.{◌+◌, ◌*◌, ◌≤◌, ◌≡◌, cond, ◌++◌, ◌∷◌, [], eqb, length};
 ghost use Rattle.text_field.specs.Writing.{Wrote};
 ghost use Rattle.fleet_line.specs.Line.{wide, numbers_line, refused_line, total_line};
