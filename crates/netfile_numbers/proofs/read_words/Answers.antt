@@ -5,10 +5,6 @@ use Rattle.netfile_numbers.specs.Bytes.{u32s}
 use Rattle.netfile_numbers.proofs.Reading.{words_stored, words_all}
 use Rattle.netfile_numbers.proofs.read_words.Goals as goal
 
--- LEFT (same-length):
--- same_length : tie.Need-same-length invariant-loop decreases-loop
--- same_length c = omega arith
-
 pub loop-i-init : goal.loop-i-init
 unfolding u32s
 loop-i-init c = (omega arith, (refl, refl))

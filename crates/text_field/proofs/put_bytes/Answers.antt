@@ -4,10 +4,6 @@ use lib.ListN.{length-set}
 use Rattle.text_field.proofs.Filling.{byte_more, byte_after}
 use Rattle.text_field.proofs.put_bytes.Goals as goal
 
--- LEFT (same-length):
--- same_length : tie.Need-same-length invariant-loop decreases-loop
--- same_length c = simp length-set (omega arith)
-
 pub loop-i-init : goal.loop-i-init
 loop-i-init c = (omega arith, (refl, refl))
 

@@ -3,10 +3,6 @@ use lib.ListN.{length-set}
 use Rattle.text_field.proofs.Decimals.{spelled_last, spelled_next, shorter, spelled_all}
 use Rattle.text_field.proofs.spell.Goals as goal
 
--- LEFT (same-length):
--- same_length : tie.Need-same-length invariant-loop decreases-loop
--- same_length c = omega arith
-
 pub overflow_cast-digits : goal.overflow_cast-digits
 overflow_cast-digits c = omega arith
 

@@ -8,10 +8,6 @@ use Rattle.why_line.specs.Text.{line_room, lines_text}
 use Rattle.why_lines.proofs.Lines.{line_written, lines_written}
 use Rattle.why_lines.proofs.put_derivation.Goals as goal
 
--- LEFT (same-length):
--- same_length : tie.Need-same-length invariant-loop decreases-loop
--- same_length c = omega (arith, room c.before.loop.invariant.1.1 (fits c.before))
-
 pub loop-n-init : goal.loop-n-init
 unfolding lines_text
 loop-n-init c = (omega arith, (omega arith, record { list = refl; size = refl }))
