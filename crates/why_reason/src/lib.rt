@@ -1,5 +1,6 @@
 // Why x is y, or is not: the text of the derivation that `explain` finds, nothing where there is none.
 #![tactic(auto)]
+
 ghost use Rattle.std.specs.Prelude.{◌≤◌, length, take};
 ghost use Rattle.text_field.specs.Writing.{Wrote};
 ghost use Rattle.derivation_lines.specs.Flat.{lines_of};
