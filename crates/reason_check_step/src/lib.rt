@@ -1,5 +1,6 @@
 // One step of a path: whether a plain word makes it, and whether it repeats a kind.
 #![tactic(auto)]
+
 ghost use Rattle.std.specs.Prelude.{◌≡◌};
 ghost use Rattle.reason_check_step.specs.Steps.{word_says, makes, repeats};
 
@@ -19,6 +20,7 @@ fn word_says(word: u32, x: u16, y: u16, sign: u32) -> bool
 }
 
 // Whether a plain word makes the step between two nodes, the first of them the `reached`-th of the path, whose first part has `first` nodes.
+#[tactic(auto, unfolding(crate::specs::Steps::makes))]
 pub fn makes_step(word: u32, first: u16, reached: usize, from: u16, to: u16) -> bool
     ensures { result ≡ makes first reached from to word }
 {
@@ -36,6 +38,7 @@ pub fn makes_step(word: u32, first: u16, reached: usize, from: u16, to: u16) -> 
 }
 
 // Whether that step repeats a kind. The crossing does not: it needs a link.
+#[tactic(auto, unfolding(crate::specs::Steps::repeats))]
 pub fn is_repeat(o: u32, k: u32, first: u16, reached: usize, from: u16, to: u16) -> bool
     ensures { result ≡ repeats o k first reached from to }
 {
