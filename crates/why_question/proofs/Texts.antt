@@ -1,8 +1,9 @@
 -- The parts of what is printed for a question.
 use Prim.Native.Nat.{ℕ}
-use mathlib.Core.Path.{◌≡◌, refl, ap}
+use mathlib.Core.Path.{◌≡◌, refl, ap, sym, ◌∙◌}
 use mathlib.Core.Bool.{Bool}
 use mathlib.Core.List.{List, ◌++◌}
+use Rattle.std.proofs.lemmas.List.{append-nil}
 use Rattle.net.specs.declared.Refusal.{Refusal}
 use Rattle.theory.specs.Marks.{blank}
 use Rattle.text_field.specs.Writing.{Wrote}
@@ -48,3 +49,13 @@ module _ (told : Bool) (o k : ℕ) (ws : List ℕ) (set x y : ℕ) where
   pub question_joins : {q : Asked} {m : List ℕ} → question_outcome q m ≡ questioned o k ws set x y (blank 1024) → line_of x y q ++ asked_text told o k ws set x y q ≡ question_text told o k ws set x y
   unfolding question_text
   question_joins e = rw (← ap (λ (p : QuestionOutcome). p.answer) e)
+
+  -- So it is where an answer was given twice, and where nothing more than the line of a refusal is written.
+  pub done_joins : {q : Asked} {a b : Answer} {count : ℕ} {m : List ℕ} → question_outcome q m ≡ questioned o k ws set x y (blank 1024) → q ≡ asked.Done a count → b ≡ a
+      → line_of x y (asked.Done a count) ++ asked_text told o k ws set x y (asked.Done b count) ≡ question_text told o k ws set x y
+  done_joins e f g = rw g (rw (← f) (question_joins e))
+
+  pub refused_joins : {q : Asked} {r : Refusal} {m : List ℕ} → question_outcome q m ≡ questioned o k ws set x y (blank 1024) → q ≡ asked.Refused r
+      → line_of x y (asked.Refused r) ≡ question_text told o k ws set x y
+  unfolding asked_text
+  refused_joins {q} {r} e f = sym (append-nil (line_of x y (asked.Refused r))) ∙ rw f at (question_joins e)

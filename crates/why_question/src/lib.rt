@@ -1,6 +1,7 @@
 // What `why` prints for one question: the line of `ask`, and below it why.
 #![tactic(auto)]
-ghost use Rattle.std.specs.Prelude.{◌<◌, ◌≤◌, length};
+
+ghost use Rattle.std.specs.Prelude.{◌<◌, ◌≤◌, ◌≡◌, length};
 ghost use Rattle.text_field.specs.Writing.{Wrote};
 ghost use Rattle.why_question.specs.Because.{both_room, question_room, both_text, because_text, asked_text, question_text};
 
@@ -71,6 +72,18 @@ fn put_asked(
     }
 }
 
+// An answer once more.
+fn answer_again(answer: &Answer) -> Answer
+    ensures { result ≡ answer.now }
+{
+    match answer {
+        Answer::None => Answer::None,
+        Answer::Yes => Answer::Yes,
+        Answer::No => Answer::No,
+        Answer::Both => Answer::Both,
+    }
+}
+
 // The line of a question, and below it why. Gives how many bytes that is.
 pub fn put_question(
     o: u32,
@@ -87,6 +100,12 @@ pub fn put_question(
 {
     let mut marks = [0u8; 1024];
     let asked = ask_question(o, k, words, set, x, y, &mut marks);
-    let at = put_line(text, x, y, asked);
-    at + put_asked(o, k, words, set, x, y, told, asked, &mut text[at..])
+    match asked {
+        Asked::Done(answer, count) => {
+            let asked = Asked::Done(answer_again(&answer), count);
+            let at = put_line(text, x, y, Asked::Done(answer, count));
+            at + put_asked(o, k, words, set, x, y, told, asked, &mut text[at..])
+        }
+        Asked::Refused(refusal) => put_line(text, x, y, Asked::Refused(refusal)),
+    }
 }
