@@ -1,5 +1,6 @@
 // The text of `why`, turn by turn: the line of each question, and below it why.
 #![tactic(auto)]
+
 ghost use Rattle.std.specs.Prelude.{◌≤◌, ◌≡◌, length};
 ghost use Rattle.text_field.specs.Writing.{Wrote};
 ghost use Rattle.netfile.specs.Contents.{file_limit};
