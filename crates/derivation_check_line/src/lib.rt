@@ -1,5 +1,6 @@
 // The tests of one line of a derivation: what its rule asks of the lines above it.
 #![tactic(auto)]
+
 ghost use Rattle.std.specs.Prelude.{◌≡◌, ◌*◌, ◌≤◌, length};
 ghost use Rattle.theory.specs.Words.{sign_at, tail_of, head_of, sign_of};
 ghost use Rattle.derivation_lines.specs.Tests.{is_kind, word_says, is_above, grounds};
