@@ -1,5 +1,6 @@
 // The sheet of `fleet` ([11]), turn by turn: what the next bytes of the input are, and what is printed for them and the file behind them.
 #![tactic(auto)]
+
 ghost use Rattle.std.specs.Prelude.{◌+◌, ◌-◌, ◌≤◌, ◌≡◌, true, false, length};
 ghost use Rattle.text_field.specs.Writing.{Wrote};
 ghost use Rattle.netfile.specs.Contents.{file_limit};
