@@ -1,5 +1,6 @@
 // The check of a reason from anybody, over the words that a set of origins chooses.
 #![tactic(auto)]
+
 ghost use Rattle.std.specs.Prelude.{◌≡◌};
 ghost use Rattle.theory.specs.Words.{sign_at};
 ghost use Rattle.theory.specs.Checks.{goes_with, passes};

@@ -1,5 +1,6 @@
 // All steps of a path, over the words that a set of origins chooses.
 #![tactic(auto)]
+
 ghost use Rattle.std.specs.Prelude.{◌≡◌, ◌≤◌, length, get_or, drop};
 ghost use Rattle.theory.specs.Checks.{all_steps};
 ghost use Rattle.theory.specs.Origins.{chosen, NetFrom};
