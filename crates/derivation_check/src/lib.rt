@@ -1,5 +1,6 @@
 // The check of a derivation from anybody, line by line, over the words that a set of origins chooses.
 #![tactic(auto)]
+
 ghost use Rattle.std.specs.Prelude.{◌≡◌, ◌+◌, ◌*◌, ◌≤◌, length, get_or};
 ghost use Rattle.theory.specs.Words.{sign_at};
 ghost use Rattle.theory.specs.Origins.{NetFrom};
