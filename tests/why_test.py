@@ -237,13 +237,7 @@ def spoilt(net, texts, chance):
 
 def command(name):
     """A program as tools/start starts it, without looking at its sources again."""
-    kit = os.environ.get("RATTLE_HOME")
-    if not kit:
-        kit = pathlib.Path(subprocess.run(["rt", "doc"], capture_output=True, text=True, check=True).stdout.strip()).parent.parent
-    tools = pathlib.Path(kit) / "on" / os.uname().machine / "toolchain"
-    emulator = tools / "bin" / "qemu-x86_64"
-    started = [str(emulator)] if os.access(emulator, os.X_OK) else []
-    return started + [str(tools / "lib" / "ld-linux-x86-64.so.2"), "--library-path", str(tools / "lib"), str(ROOT / "target" / "bin" / name)]
+    return [str(ROOT / "crates" / name / "out" / name)]
 
 
 def run(how, data):
