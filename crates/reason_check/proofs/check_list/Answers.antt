@@ -1,3 +1,4 @@
+-- Each return is one case of the verdict on a net.
 use mathlib.Core.Path.{sym, ◌∙◌}
 use Rattle.reason_check.proofs.check_list.Goals as goal
 

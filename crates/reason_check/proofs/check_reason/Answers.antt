@@ -1,3 +1,4 @@
+-- The check's refusal is passed on, and over its net the list is checked.
 use mathlib.Core.Path.{sym, ◌∙◌}
 use Rattle.theory.specs.Origins.{chosen}
 use Rattle.net.proofs.NetCheck.{chosen_checked}

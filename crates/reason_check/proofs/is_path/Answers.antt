@@ -1,19 +1,11 @@
-use mathlib.Core.Path.{sym}
+-- Each return is one test of the shape that fails; past them all the steps decide.
+use mathlib.Core.Path.{sym, ap}
+use mathlib.Core.Bool.{not}
 use native.Mathlib.Omega.{arith}
 use Rattle.theory.specs.Words.{sign_at}
 use Rattle.theory.specs.Origins.{chosen}
 use Rattle.reason_check.proofs.Shape.{short_fails, first_part_fails, length_fails, sign_fails, start_fails, end_fails, steps_decide}
 use Rattle.reason_check.proofs.is_path.Goals as goal
-
--- LEFT (overflow-cast-if5):
--- cast-if5 : tie.Need-overflow-cast-if5
--- cast-if5 c = omega (arith, c.shared-slice-known5.given 2)
-
--- LEFT (overflow-cast-if6):
--- cast-if6 : tie.Need-overflow-cast-if6
--- cast-if6 c =
---     let a = c.before.before.before.before.before.before.before.before.before.before.before.before.args in
---     omega (arith, c.shared-slice-known6.given (length a.list.now - 1))
 
 pub returns-then-list-lt3 : goal.returns-then-list-lt3
 returns-then-list-lt3 c =
@@ -24,16 +16,16 @@ returns-then-first-eq0 c =
     first_part_fails c.args.o c.args.k (chosen c.args.set c.args.words.now) c.args.x c.args.y (sign_at c.args.sign) c.args.list.now c.if-list-lt3.false c.if-first-eq0.true
 
 pub overflow_cast-first : goal.overflow_cast-first
-overflow_cast-first c = omega (arith, c.shared_slice_known-3-1.given 0, c.shared_slice_known-4-1.given 1)
+overflow_cast-first c = omega (arith, c.type_inv.list 0, c.type_inv.list 1)
 
 pub overflow_cast-second : goal.overflow_cast-second
-overflow_cast-second c = omega (arith, c.shared_slice_known-3-1.given 0, c.shared_slice_known-4-1.given 1)
+overflow_cast-second c = omega (arith, c.type_inv.list 0, c.type_inv.list 1)
 
 pub overflow_add-first : goal.overflow_add-first
-overflow_add-first c = omega (arith, c.shared_slice_known-3-1.given 0, c.shared_slice_known-4-1.given 1)
+overflow_add-first c = omega (arith, c.type_inv.list 0, c.type_inv.list 1)
 
 pub overflow_add-first-2 : goal.overflow_add-first-2
-overflow_add-first-2 c = omega (arith, c.shared_slice_known-3-1.given 0, c.shared_slice_known-4-1.given 1)
+overflow_add-first-2 c = omega (arith, c.type_inv.list 0, c.type_inv.list 1)
 
 pub returns-then-first-second : goal.returns-then-first-second
 returns-then-first-second c =
@@ -42,17 +34,17 @@ returns-then-first-second c =
 pub returns-then-not-goes_with : goal.returns-then-not-goes_with
 returns-then-not-goes_with c =
     sign_fails c.args.o c.args.k (chosen c.args.set c.args.words.now) c.args.x c.args.y (sign_at c.args.sign) c.args.list.now c.if-list-lt3.false c.if-first-eq0.false c.if-first-second.false
-    c.goes_with.ensures c.if-not-goes_with.true-raw
+    c.goes_with.ensures (ap not c.if-not-goes_with.true)
 
 pub returns-then-list-x : goal.returns-then-list-x
 returns-then-list-x c =
     start_fails c.args.o c.args.k (chosen c.args.set c.args.words.now) c.args.x c.args.y (sign_at c.args.sign) c.args.list.now c.if-list-lt3.false c.if-first-eq0.false c.if-first-second.false
-    c.goes_with.ensures c.if-not-goes_with.false-raw c.if-list-x.true
+    c.goes_with.ensures (ap not c.if-not-goes_with.false) c.if-list-x.true
 
 pub returns-then-list-y : goal.returns-then-list-y
 returns-then-list-y c =
     end_fails c.args.o c.args.k (chosen c.args.set c.args.words.now) c.args.x c.args.y (sign_at c.args.sign) c.args.list.now c.if-list-lt3.false c.if-first-eq0.false c.if-first-second.false
-    c.goes_with.ensures c.if-not-goes_with.false-raw c.if-list-x.false c.if-list-y.true
+    c.goes_with.ensures (ap not c.if-not-goes_with.false) c.if-list-x.false c.if-list-y.true
 
 pub steps_hold-requires : goal.steps_hold-requires
 steps_hold-requires c =
@@ -64,4 +56,4 @@ steps_hold-requires c =
 pub returns : goal.returns
 returns c =
     steps_decide c.args.o c.args.k (chosen c.args.set c.args.words.now) c.args.x c.args.y (sign_at c.args.sign) c.args.list.now c.if-list-lt3.false c.if-first-eq0.false c.if-first-second.false
-    c.goes_with.ensures c.if-not-goes_with.false-raw c.if-list-x.false c.if-list-y.false c.steps_hold.ensures
+    c.goes_with.ensures (ap not c.if-not-goes_with.false) c.if-list-x.false c.if-list-y.false c.steps_hold.ensures
