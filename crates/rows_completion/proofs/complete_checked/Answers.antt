@@ -13,43 +13,43 @@ overflow_mul-size c =
 
 pub returns-then-yeses-size : goal.returns-then-yeses-size
 returns-then-yeses-size c =
-    yes_short c.args.o c.args.k c.args.n (chosen c.args.set c.args.words.now) c.args.yeses.now c.args.noes.now c.args.list.now c.if-yeses-size.true
+    yes_short c.args.o c.args.k c.args.n (chosen c.args.set c.args.words.now) c.args.yeses.now c.args.noes.now c.args.list.now (omega arith)
 
 pub returns-then-noes-size : goal.returns-then-noes-size
 returns-then-noes-size c =
-    no_short c.args.o c.args.k c.args.n (chosen c.args.set c.args.words.now) c.args.yeses.now c.args.noes.now c.args.list.now c.if-noes-size.true
+    no_short c.args.o c.args.k c.args.n (chosen c.args.set c.args.words.now) c.args.yeses.now c.args.noes.now c.args.list.now (omega arith)
 
 pub fill_rows-requires : goal.fill_rows-requires
 fill_rows-requires c =
     record {
       net = c.requires.net;
       size = (c.requires.size, ap width c.requires.size);
-      room = (c.if-yeses-size.false, c.if-noes-size.false);
+      room = (omega arith, omega arith);
     }
 
 pub count_words-needed-requires : goal.count_words-needed-requires
 count_words-needed-requires c = (
   omega (arith, c.requires.net.few, c.requires.size),
   omega (arith, c.requires.net.few, c.requires.size),
-  omega (arith, c.fill_rows.auto.yeses, c.if-yeses-size.false),
-  omega (arith, c.fill_rows.auto.noes, c.if-noes-size.false),
+  omega (arith, c.fill_rows.auto.yeses),
+  omega (arith, c.fill_rows.auto.noes),
 )
 
 pub returns-then-list-needed : goal.returns-then-list-needed
 returns-then-list-needed c =
     list_short c.args.o c.args.k c.args.n (chosen c.args.set c.args.words.now) c.args.yeses.now c.args.noes.now c.args.list.now (chosen_net c.args.set c.args.o c.args.k c.args.words.now c.requires.net) c.requires.size
-    c.if-yeses-size.false c.if-noes-size.false c.fill_rows.ensures.yeses_after c.fill_rows.ensures.noes_after c.count_words-needed.ensures c.if-list-needed.true
+    (omega arith) (omega arith) c.fill_rows.ensures.yeses_after c.fill_rows.ensures.noes_after c.count_words-needed.ensures c.if-list-needed.true
 
 pub write_rows-requires : goal.write_rows-requires
 write_rows-requires c = (
   omega (arith, c.requires.net.few, c.requires.size),
   omega (arith, c.requires.net.few, c.requires.size),
-  omega (arith, c.fill_rows.auto.yeses, c.if-yeses-size.false),
-  omega (arith, c.fill_rows.auto.noes, c.if-noes-size.false),
+  omega (arith, c.fill_rows.auto.yeses),
+  omega (arith, c.fill_rows.auto.noes),
   omega (arith, c.count_words-needed.ensures, c.if-list-needed.false),
 )
 
 pub returns : goal.returns
 returns c =
     list_done c.args.o c.args.k c.args.n (chosen c.args.set c.args.words.now) c.args.yeses.now c.args.noes.now c.args.list.now (chosen_net c.args.set c.args.o c.args.k c.args.words.now c.requires.net) c.requires.size
-    c.if-yeses-size.false c.if-noes-size.false c.fill_rows.ensures.yeses_after c.fill_rows.ensures.noes_after c.count_words-needed.ensures c.if-list-needed.false c.write_rows.ensures
+    (omega arith) (omega arith) c.fill_rows.ensures.yeses_after c.fill_rows.ensures.noes_after c.count_words-needed.ensures c.if-list-needed.false c.write_rows.ensures
