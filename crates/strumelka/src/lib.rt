@@ -1,5 +1,6 @@
-// What a C or a Rust program links: each operation, its answer given as a reply.
+// What a C or a Rust program calls: each operation, its answer given as a reply. `strumelka_c` exports them to C.
 #![tactic(auto)]
+
 ghost use Rattle.std.specs.Prelude.{◌≡◌};
 ghost use Rattle.net.specs.Table.{check_net, checked_reply};
 ghost use Rattle.check_word.specs.Table.{check_word, word_reply};
@@ -50,24 +51,21 @@ use unit::run_unit;
 use valuation::fill_valuation;
 
 // The test of a single word.
-#[unsafe(no_mangle)]
-pub extern "C" fn strumelka_check_word(o: u32, k: u32, word: u32) -> Reply
+pub fn strumelka_check_word(o: u32, k: u32, word: u32) -> Reply
     ensures { result ≡ word_reply (check_word o k word) }
 {
     word_given(check_word(o, k, word))
 }
 
 // The check of a net.
-#[unsafe(no_mangle)]
-pub extern "C" fn strumelka_check_net(o: u32, k: u32, words: &[u32], set: u32) -> Reply
+pub fn strumelka_check_net(o: u32, k: u32, words: &[u32], set: u32) -> Reply
     ensures { result ≡ checked_reply (check_net o k words.now set) }
 {
     checked_given(check_net(o, k, words, set))
 }
 
 // The scan from node `start`, object or kind, within `budget` rounds.
-#[unsafe(no_mangle)]
-pub extern "C" fn strumelka_scan(
+pub fn strumelka_scan(
     o: u32,
     k: u32,
     words: &[u32],
@@ -83,8 +81,7 @@ pub extern "C" fn strumelka_scan(
 }
 
 // The question whether `x` is `y`.
-#[unsafe(no_mangle)]
-pub extern "C" fn strumelka_question(
+pub fn strumelka_question(
     o: u32,
     k: u32,
     words: &[u32],
@@ -100,8 +97,7 @@ pub extern "C" fn strumelka_question(
 }
 
 // The questions of all pairs, x then y, with room for a byte for each and for marks.
-#[unsafe(no_mangle)]
-pub extern "C" fn strumelka_questions(
+pub fn strumelka_questions(
     o: u32,
     k: u32,
     words: &[u32],
@@ -118,8 +114,7 @@ pub extern "C" fn strumelka_questions(
 }
 
 // The completion, with room for marks and for the list.
-#[unsafe(no_mangle)]
-pub extern "C" fn strumelka_completion(
+pub fn strumelka_completion(
     o: u32,
     k: u32,
     words: &[u32],
@@ -135,14 +130,7 @@ pub extern "C" fn strumelka_completion(
 }
 
 // The clash test.
-#[unsafe(no_mangle)]
-pub extern "C" fn strumelka_clash(
-    o: u32,
-    k: u32,
-    words: &[u32],
-    set: u32,
-    marks: &mut [u8],
-) -> Reply
+pub fn strumelka_clash(o: u32, k: u32, words: &[u32], set: u32, marks: &mut [u8]) -> Reply
     ensures { (result ≡ clashed_reply (clashed_by o k words.now set marks.old).answer)
         × (marks.new ≡ (clashed_by o k words.now set marks.old).marks) }
 {
@@ -150,8 +138,7 @@ pub extern "C" fn strumelka_clash(
 }
 
 // The compaction of a list of plain words, where it stands.
-#[unsafe(no_mangle)]
-pub extern "C" fn strumelka_compact(o: u32, k: u32, list: &mut [u32], marks: &mut [u8]) -> Reply
+pub fn strumelka_compact(o: u32, k: u32, list: &mut [u32], marks: &mut [u8]) -> Reply
     ensures { (result ≡ compacted_reply (compacted_by o k list.old marks.old).answer)
         × (list.new ≡ (compacted_by o k list.old marks.old).list)
         × (marks.new ≡ (compacted_by o k list.old marks.old).marks) }
@@ -160,8 +147,7 @@ pub extern "C" fn strumelka_compact(o: u32, k: u32, list: &mut [u32], marks: &mu
 }
 
 // Mending the net of a list of plain words, with room for the words kept and, in threes, for those dropped.
-#[unsafe(no_mangle)]
-pub extern "C" fn strumelka_mend(
+pub fn strumelka_mend(
     o: u32,
     k: u32,
     words: &[u32],
@@ -178,8 +164,7 @@ pub extern "C" fn strumelka_mend(
 }
 
 // The shortest reason for x → y (`sign` 0) or x ↛ y (`sign` 1), with room for distances and for the list.
-#[unsafe(no_mangle)]
-pub extern "C" fn strumelka_reason(
+pub fn strumelka_reason(
     o: u32,
     k: u32,
     words: &[u32],
@@ -198,8 +183,7 @@ pub extern "C" fn strumelka_reason(
 }
 
 // The check of a reason for x → y (`sign` 0) or x ↛ y (`sign` 1).
-#[unsafe(no_mangle)]
-pub extern "C" fn strumelka_reason_check(
+pub fn strumelka_reason_check(
     o: u32,
     k: u32,
     words: &[u32],
@@ -215,8 +199,7 @@ pub extern "C" fn strumelka_reason_check(
 }
 
 // The shortest reason for x → y (`sign` 0) or x ↛ y (`sign` 1) and its derivation, with room for distances, for the reason and for the lines.
-#[unsafe(no_mangle)]
-pub extern "C" fn strumelka_explain(
+pub fn strumelka_explain(
     o: u32,
     k: u32,
     words: &[u32],
@@ -237,8 +220,7 @@ pub extern "C" fn strumelka_explain(
 }
 
 // The check of a derivation of x → y (`sign` 0) or x ↛ y (`sign` 1).
-#[unsafe(no_mangle)]
-pub extern "C" fn strumelka_derivation_check(
+pub fn strumelka_derivation_check(
     o: u32,
     k: u32,
     words: &[u32],
@@ -254,8 +236,7 @@ pub extern "C" fn strumelka_derivation_check(
 }
 
 // The proof of x → y (`sign` 0) or x ↛ y (`sign` 1), with room for distances and for the list.
-#[unsafe(no_mangle)]
-pub extern "C" fn strumelka_proof(
+pub fn strumelka_proof(
     o: u32,
     k: u32,
     words: &[u32],
@@ -274,8 +255,7 @@ pub extern "C" fn strumelka_proof(
 }
 
 // The check of a proof of x → y (`sign` 0) or x ↛ y (`sign` 1).
-#[unsafe(no_mangle)]
-pub extern "C" fn strumelka_proof_check(
+pub fn strumelka_proof_check(
     o: u32,
     k: u32,
     words: &[u32],
@@ -291,8 +271,7 @@ pub extern "C" fn strumelka_proof_check(
 }
 
 // The valuation of a net, with room for the table and for marks.
-#[unsafe(no_mangle)]
-pub extern "C" fn strumelka_valuation(
+pub fn strumelka_valuation(
     o: u32,
     k: u32,
     words: &[u32],
@@ -308,23 +287,14 @@ pub extern "C" fn strumelka_valuation(
 }
 
 // The test of x → y (`sign` 0) or x ↛ y (`sign` 1) in a lent valuation.
-#[unsafe(no_mangle)]
-pub extern "C" fn strumelka_satisfies(
-    o: u32,
-    k: u32,
-    table: &[u8],
-    x: u32,
-    y: u32,
-    sign: u32,
-) -> Reply
+pub fn strumelka_satisfies(o: u32, k: u32, table: &[u8], x: u32, y: u32, sign: u32) -> Reply
     ensures { result ≡ tested_reply (tested_by o k table.now x y sign) }
 {
     tested_given(test_valuation(o, k, table, x, y, sign))
 }
 
 // The completion by rows, with room for the yes rows, for the no rows and for the list.
-#[unsafe(no_mangle)]
-pub extern "C" fn strumelka_completion_by_rows(
+pub fn strumelka_completion_by_rows(
     o: u32,
     k: u32,
     words: &[u32],
@@ -342,8 +312,7 @@ pub extern "C" fn strumelka_completion_by_rows(
 }
 
 // The question whether `x` is `y`, asked of rows that a completion by rows left.
-#[unsafe(no_mangle)]
-pub extern "C" fn strumelka_answer_in_rows(
+pub fn strumelka_answer_in_rows(
     o: u32,
     k: u32,
     yeses: &[u64],
@@ -357,8 +326,7 @@ pub extern "C" fn strumelka_answer_in_rows(
 }
 
 // A program of the marker unit, run within `budget` commands on the marks as they are lent.
-#[unsafe(no_mangle)]
-pub extern "C" fn strumelka_unit(
+pub fn strumelka_unit(
     o: u32,
     k: u32,
     words: &[u32],
