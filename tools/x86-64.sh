@@ -3,6 +3,8 @@
 #   build_rust MAIN PROGRAM [C]   a Rust program, with the archive and a C file that includes the header
 #   build_c FILE PROGRAM          a C program, with the archive and the header
 #   run_built PROGRAM ARG..       runs what one of the two built
+#   build_archive                 proves the exported functions and writes the archive; a static library is named after its crate, the archive after the header
+#   build_proved NAME             proves and builds the program of the crate NAME, and runs it with nothing on standard input
 #   run_proved NAME               runs the program of the crate NAME, which rt has built
 #   emulated                      whether the code is emulated, so that its times say nothing
 #   lacking TOOL..                prints those that are not there, a line for each
@@ -13,8 +15,7 @@
 archive=target/staticlib/libstrumelka.a
 built=target/library
 
-kit=${RATTLE_HOME:-$(dirname "$(dirname "$(rt doc)")")}
-toolchain=$kit/on/$(uname -m)/toolchain
+toolchain=$(dirname "$(rt doc)")/toolchain
 loader=("$toolchain/lib/ld-linux-x86-64.so.2" --library-path "$toolchain/lib")
 
 if [ "$(uname -m)" = x86_64 ]; then
@@ -26,7 +27,7 @@ else
     rust_compiler=(/usr/bin/rustc --target x86_64-unknown-linux-gnu -C linker=x86_64-linux-gnu-gcc)
     c_compiler=(x86_64-linux-gnu-gcc)
     runner=(qemu-x86_64 "${loader[@]}")
-    proved_runner=("$toolchain/bin/qemu-x86_64" "${loader[@]}")
+    proved_runner=("${runner[@]}")
 fi
 
 emulated() {
@@ -115,6 +116,16 @@ run_built() {
     "${runner[@]}" "$@"
 }
 
+build_archive() {
+    (cd crates/strumelka_c && rt lib) || return
+    mkdir -p "$(dirname "$archive")"
+    cp crates/strumelka_c/out/libstrumelka_c.a "$archive"
+}
+
+build_proved() {
+    (cd "crates/$1" && rt run </dev/null)
+}
+
 run_proved() {
-    "${proved_runner[@]}" "target/bin/$1"
+    "${proved_runner[@]}" "crates/$1/out/$1"
 }
