@@ -2,6 +2,7 @@
 // proof check, valuation and its test, question of rows and marker unit, each as a reply. That of a completion by rows is a completion's, and that
 // of the check of a derivation a reason check's.
 #![tactic(auto)]
+
 ghost use Rattle.std.specs.Prelude.{◌≡◌};
 ghost use Rattle.scan.specs.Table.{scan_reply};
 ghost use Rattle.question.specs.Table.{asked_reply};
