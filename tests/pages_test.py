@@ -25,7 +25,7 @@ MARK_ALONE = re.compile(r"\?|…|\.\.\.?")
 LINES_OFF = 5
 
 # What the pages name and the repository does not: settings of the machine and of the kit, and needs by the kit's names.
-ELSEWHERE = {"MIMALLOC_ALLOW_LARGE_OS_PAGES", "MIMALLOC_PURGE_DELAY", "rattle-kit-5b", "returns", "returns-2", "returns-4", "Lts.antt"}
+ELSEWHERE = {"MIMALLOC_ALLOW_LARGE_OS_PAGES", "MIMALLOC_PURGE_DELAY", "rattle-kit-5b", "rattle-kit-13f", "returns", "returns-2", "returns-4", "Lts.antt"}
 
 
 def text(path):
