@@ -168,7 +168,7 @@ def links(wrong):
 
 def names(wrong):
     """Any name in backticks that looks like one of the repository's: with a capital inside, a hyphen, an underscore or a slash."""
-    tree = [p for folder in ("crates", "tests", "tools", "bench", "include", "examples", "nets") for p in (ROOT / folder).rglob("*") if p.is_file()]
+    tree = [p for folder in ("crates", "tests", "tools", "bench", "include", "examples", "nets") for p in (ROOT / folder).rglob("*") if p.is_file() and "out" not in p.parts]
     tree += [ROOT / "crates.txt", ROOT / "test", ROOT / "ask", ROOT / "fleet"]
     known = {name for p in tree for name in (p.name, p.stem, p.parent.name)}
     for path in tree:
