@@ -14,6 +14,8 @@ def layers():
             heading = line.lstrip("# ").split(":")[0]
         elif ":" in line:
             crate, imports = line.split(":")
+            # A static library has a word behind its name.
+            crate = crate.split()[0]
             if not found or found[-1][0] != heading:
                 found.append((heading, []))
             found[-1][1].append((crate, imports.split()))
