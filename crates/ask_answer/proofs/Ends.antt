@@ -1,4 +1,5 @@
 -- The fields at the end of a line, and the room that they take.
+use Rattle.std.specs.Prelude.{Err, Ok}
 use Prim.Native.Nat.{ℕ, ◌+◌, ◌≤◌}
 use mathlib.Core.Path.{◌≡◌}
 use mathlib.Core.List.{List, [], ◌∷◌, ◌++◌, append_assoc}
@@ -8,8 +9,7 @@ use Rattle.net.specs.Table.{Reply, refusal_reply}
 use Rattle.net.specs.declared.Refusal.{Refusal}
 use Rattle.question.specs.declared.Answer.{Answer}
 use Rattle.question.specs.declared.Answer.TheVariants.{None, Yes, No, Both}
-use Rattle.question.specs.declared.Asked.{Asked}
-use Rattle.question.specs.declared.Asked.TheVariants as asked
+use Rattle.question.specs.Table.{Asked}
 use Rattle.text_field.specs.Decimal.{decimal}
 use Rattle.ask_answer.specs.Ending.{field, refused_word, answer_word, answer_fields}
 use Rattle.text_field.proofs.Decimals.{most_digits}
@@ -23,10 +23,10 @@ pub word_of : {a v : Answer} → a ≡ v → answer_word v ++ 32 ∷ [] ≡ answ
 word_of e = rw e
 
 -- What follows x and y, for an answer and for a refusal.
-pub done_fields : {q : Asked} {a : Answer} {count : ℕ} → q ≡ asked.Done a count → (answer_word a ++ 32 ∷ []) ++ (decimal count ++ 10 ∷ []) ≡ answer_fields q
+pub done_fields : {q : Asked} {a : Answer} {count : ℕ} → q ≡ Ok (a, count) → (answer_word a ++ 32 ∷ []) ++ (decimal count ++ 10 ∷ []) ≡ answer_fields q
 done_fields {a = a} e = rw e (field_joins (answer_word a) _)
 
-pub refused_fields : {q : Asked} {r : Refusal} {given : Reply} → q ≡ asked.Refused r → given ≡ refusal_reply r
+pub refused_fields : {q : Asked} {r : Refusal} {given : Reply} → q ≡ Err r → given ≡ refusal_reply r
     → (refused_word ++ 32 ∷ []) ++ (decimal given.number ++ 10 ∷ []) ≡ answer_fields q
 refused_fields e f = rw (e, f)
 
@@ -50,5 +50,5 @@ word_room a = simp length-append (omega (arith, word_size a))
 
 -- The end of a question's line takes at most 19.
 pub answer_room : (a : Asked) → length (answer_fields a) ≤ 19
-answer_room (asked.Done a count) = simp length-append (omega (arith, word_size a, most_digits 10 count))
-answer_room (asked.Refused r) = simp length-append (omega (arith, most_digits 10 (refusal_reply r).number))
+answer_room (Ok (a, count)) = simp length-append (omega (arith, word_size a, most_digits 10 count))
+answer_room (Err r) = simp length-append (omega (arith, most_digits 10 (refusal_reply r).number))

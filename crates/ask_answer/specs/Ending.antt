@@ -1,11 +1,10 @@
 -- The fields of a line, and those that end a question's.
-use Rattle.std.specs.Prelude.{ℕ, List, [], ◌∷◌, ◌++◌}
+use Rattle.std.specs.Prelude.{ℕ, List, [], ◌∷◌, ◌++◌, Err, Ok}
 use Rattle.net.specs.Table.{refusal_reply}
 use Rattle.text_field.specs.Decimal.{decimal}
 use Rattle.question.specs.declared.Answer.{Answer}
 use Rattle.question.specs.declared.Answer.TheVariants.{None, Yes, No, Both}
-use Rattle.question.specs.declared.Asked.{Asked}
-use Rattle.question.specs.declared.Asked.TheVariants as asked
+use Rattle.question.specs.Table.{Asked}
 
 -- A field and the space after it, or at the end of a line the byte 10.
 abbrev pub field : List ℕ → List ℕ → List ℕ
@@ -27,5 +26,5 @@ answer_word Both = 98 ∷ 111 ∷ 116 ∷ 104 ∷ []
 
 -- What follows x and y in a question's line: the word and the count, or `refused` and the number.
 abbrev pub answer_fields : Asked → List ℕ
-answer_fields (asked.Done a count) = field (answer_word a) (last_field (decimal count))
-answer_fields (asked.Refused r) = field refused_word (last_field (decimal (refusal_reply r).number))
+answer_fields (Ok (a, count)) = field (answer_word a) (last_field (decimal count))
+answer_fields (Err r) = field refused_word (last_field (decimal (refusal_reply r).number))

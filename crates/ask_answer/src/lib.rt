@@ -5,8 +5,8 @@ ghost use Rattle.std.specs.Prelude.{◌≤◌, ◌++◌, ◌∷◌, [], length};
 ghost use Rattle.text_field.specs.Writing.{Wrote};
 ghost use Rattle.ask_answer.specs.Ending.{answer_word, answer_fields};
 
-use net::refusal_given;
-use question::{Answer, Asked};
+use net::{Refusal, refusal_given};
+use question::Answer;
 use text_field::{LINE_END, SPACE, put_bytes, put_number};
 
 // One of the four words, with the space after it. Gives how many bytes that is.
@@ -23,16 +23,16 @@ fn put_word(text: &mut [u8], answer: Answer) -> usize
 }
 
 // What follows x and y in a question's line. Gives how many bytes that is.
-pub fn put_answer(text: &mut [u8], asked: Asked) -> usize
+pub fn put_answer(text: &mut [u8], asked: Result<(Answer, u32), Refusal>) -> usize
     requires { 19 ≤ length text.old }
     ensures { Wrote (answer_fields asked) text.old text.new result }
 {
     match asked {
-        Asked::Done(answer, count) => {
+        Ok((answer, count)) => {
             let at = put_word(text, answer);
             at + put_number(&mut text[at..], count, LINE_END)
         }
-        Asked::Refused(refusal) => {
+        Err(refusal) => {
             let at = put_bytes(text, b"refused", SPACE);
             at + put_number(&mut text[at..], refusal_given(refusal).number, LINE_END)
         }

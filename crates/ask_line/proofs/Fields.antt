@@ -5,7 +5,7 @@ use mathlib.Core.List.{List, [], ◌∷◌, ◌++◌, append_assoc}
 use native.Mathlib.Omega.{arith}
 use lib.ListN.{length, length-append}
 use Rattle.ask_answer.proofs.Ends.{field_joins, word_space, number_room, answer_room}
-use Rattle.question.specs.declared.Asked.{Asked}
+use Rattle.question.specs.Table.{Asked}
 use Rattle.text_field.specs.Decimal.{decimal}
 use Rattle.ask_answer.specs.Ending.{field, last_field, answer_fields}
 use Rattle.ask_line.specs.Line.{net_word, line_of}

@@ -1,5 +1,6 @@
 -- A question's line says what it seems to say: two lines that are the same have the same x and y, and either the same word and count or the same
 -- number of a refusal.
+use Rattle.std.specs.Prelude.{Err, Ok}
 use Prim.Native.Nat.{ℕ, ◌<◌}
 use mathlib.Core.Path.{◌≡◌, refl, sym, ap, ◌∙◌}
 use mathlib.Core.Bool.{false, cond}
@@ -13,8 +14,7 @@ use Rattle.net.specs.declared.Refusal.{Refusal}
 use Rattle.net.proofs.Replies.{refusal_numbers}
 use Rattle.question.specs.declared.Answer.{Answer}
 use Rattle.question.specs.declared.Answer.TheVariants.{None, Yes, No, Both}
-use Rattle.question.specs.declared.Asked.{Asked}
-use Rattle.question.specs.declared.Asked.TheVariants as asked
+use Rattle.question.specs.Table.{Asked}
 use Rattle.text_field.specs.Decimal.{decimal, Digit}
 use Rattle.text_field.proofs.Denoting.{decimal_digits, decimal_one_to_one}
 use Rattle.ask_answer.specs.Ending.{field, last_field, refused_word, answer_word, answer_fields}
@@ -68,19 +68,19 @@ last_number : (n m : ℕ) → n < 4294967296 → m < 4294967296 → last_field (
 last_number n m h k e = decimal_one_to_one n m h k (split 10 (decimal n) (decimal m) [] [] (decimal_free 10 n (omega arith)) (decimal_free 10 m (omega arith)) e).0
 
 -- The end of a line says the word and the count.
-pub end_done : (a b : Answer) (c d : ℕ) → c < 4294967296 → d < 4294967296 → answer_fields (asked.Done a c) ≡ answer_fields (asked.Done b d) → (a ≡ b) × (c ≡ d)
+pub end_done : (a b : Answer) (c d : ℕ) → c < 4294967296 → d < 4294967296 → answer_fields (Ok (a, c)) ≡ answer_fields (Ok (b, d)) → (a ≡ b) × (c ≡ d)
 end_done a b c d h k e =
     let (p, q) = split 32 (answer_word a) (answer_word b) (last_field (decimal c)) (last_field (decimal d)) (word_free a) (word_free b) e in
     (sym (answer_of_word a) ∙ ap answer_of p ∙ answer_of_word b, last_number c d h k q)
 
 -- Or the number of a refusal.
-pub end_refused : (r s : Refusal) → answer_fields (asked.Refused r) ≡ answer_fields (asked.Refused s) → (refusal_reply r).number ≡ (refusal_reply s).number
+pub end_refused : (r s : Refusal) → answer_fields (Err r) ≡ answer_fields (Err s) → (refusal_reply r).number ≡ (refusal_reply s).number
 end_refused r s e =
     let t = split 32 refused_word refused_word (last_field (decimal (refusal_reply r).number)) (last_field (decimal (refusal_reply s).number)) refused_free refused_free e in
     last_number (refusal_reply r).number (refusal_reply s).number (omega (arith, refusal_numbers r)) (omega (arith, refusal_numbers s)) t.1
 
 -- And which of the two it says.
-pub end_differs : (a : Answer) (c : ℕ) (r : Refusal) → answer_fields (asked.Done a c) ≡ answer_fields (asked.Refused r) → ⊥
+pub end_differs : (a : Answer) (c : ℕ) (r : Refusal) → answer_fields (Ok (a, c)) ≡ answer_fields (Err r) → ⊥
 end_differs a c r e =
     let t = split 32 (answer_word a) refused_word (last_field (decimal c)) (last_field (decimal (refusal_reply r).number)) (word_free a) refused_free e in
     omega (arith, ap length t.0, word_size a)

@@ -2,7 +2,7 @@
 use Rattle.std.specs.Prelude.{ℕ, List, [], ◌∷◌}
 use Rattle.ask_answer.specs.Ending.{field, answer_fields}
 use Rattle.text_field.specs.Decimal.{decimal}
-use Rattle.question.specs.declared.Asked.{Asked}
+use Rattle.question.specs.Table.{Asked}
 
 -- The words file and net.
 abbrev pub file_word : List ℕ

@@ -8,11 +8,12 @@ ghost use Rattle.ask_answer.specs.Ending.{field as specs·field, last_field};
 ghost use Rattle.ask_line.specs.Line.{net_word, line_of};
 
 use ask_answer::put_answer;
-use question::Asked;
+use net::Refusal;
+use question::Answer;
 use text_field::{LINE_END, SPACE, put_bytes, put_number};
 
 // A question's line. Gives how many bytes that is.
-pub fn put_line(text: &mut [u8], x: u32, y: u32, asked: Asked) -> usize
+pub fn put_line(text: &mut [u8], x: u32, y: u32, asked: Result<(Answer, u32), Refusal>) -> usize
     requires { (x < 65536) × ((y < 65536) × (31 ≤ length text.old)) }
     ensures { Wrote (line_of x y asked) text.old text.new result × (result ≤ 31) }
 {

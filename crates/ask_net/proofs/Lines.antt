@@ -11,7 +11,7 @@ use Rattle.text_field.specs.Writing.{Wrote}
 use Rattle.text_field.proofs.Writing.{rest, rejoined, wrote_more, wrote_as}
 use Rattle.theory.specs.Marks.{blank}
 use Rattle.question.specs.Table.{questioned}
-use Rattle.question.specs.declared.Asked.{Asked}
+use Rattle.question.specs.Table.{Asked}
 use Rattle.netfile_numbers.specs.Bytes.{u16_at}
 use Rattle.ask_line.specs.Line.{line_of}
 use Rattle.ask_net.specs.Lines.{lines_of}

@@ -1,9 +1,8 @@
 -- The text that `ask` prints for a net.
-use Rattle.std.specs.Prelude.{ℕ, zero, suc, ◌/◌, List, [], ◌++◌, length, drop}
+use Rattle.std.specs.Prelude.{ℕ, zero, suc, ◌/◌, List, [], ◌++◌, length, drop, Err, Ok}
 use Rattle.theory.specs.Marks.{blank}
 use Rattle.net.specs.Table.{check_net, check_plain, refusal_reply}
-use Rattle.net.specs.declared.Checked.{Checked}
-use Rattle.net.specs.declared.Checked.TheVariants as checked
+use Rattle.net.specs.Table.{Checked}
 use Rattle.question.specs.Table.{questioned}
 use Rattle.netfile_numbers.specs.Bytes.{u16_at}
 use Rattle.text_field.specs.Decimal.{decimal}
@@ -18,8 +17,8 @@ lines_of o k ws set (suc j) b =
 
 -- The text for a net by what its check gave: a line for each question, or its number, the index and the cause.
 unfoldable pub net_text : ℕ → ℕ → List ℕ → ℕ → List ℕ → Checked → List ℕ
-net_text o k ws set b (checked.Nodes n) = lines_of o k ws set (length b / 4) b
-net_text o k ws set b (checked.Refused r) = field net_word (field (decimal (refusal_reply r).number) (field (decimal (refusal_reply r).first) (last_field (decimal (refusal_reply r).second))))
+net_text o k ws set b (Ok n) = lines_of o k ws set (length b / 4) b
+net_text o k ws set b (Err r) = field net_word (field (decimal (refusal_reply r).number) (field (decimal (refusal_reply r).first) (last_field (decimal (refusal_reply r).second))))
 
 -- The text for a net whose words have origins, read with a set of them.
 abbrev pub chosen_text : ℕ → ℕ → List ℕ → ℕ → List ℕ → List ℕ

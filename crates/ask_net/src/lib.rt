@@ -1,14 +1,13 @@
 // The text for a net: a line for each question, or its number, the index and the cause.
 #![tactic(auto)]
 
-ghost use Rattle.std.specs.Prelude.{ℕ, ◌*◌, ◌/◌, ◌≤◌, ◌≡◌, length};
+ghost use Rattle.std.specs.Prelude.{ℕ, ◌*◌, ◌/◌, ◌≤◌, ◌≡◌, length, Ok};
 ghost use Rattle.net.specs.Table.{check_net};
-ghost use Rattle.net.specs.declared.Checked.TheVariants.{Nodes};
 ghost use Rattle.text_field.specs.Writing.{Wrote};
 ghost use Rattle.ask_net.specs.Lines.{lines_of, net_text, chosen_text, plain_text};
 
 use ask_line::{put_line, put_refused_net};
-use net::{Checked, check_net, check_plain, refusal_given};
+use net::{Refusal, check_net, check_plain, refusal_given};
 use netfile_numbers::u16_at;
 use questions_pair::{Held, ask_pair};
 
@@ -22,22 +21,20 @@ fn put_lines(
     questions: &[u8],
     text: &mut [u8],
 ) -> usize
-    requires net { check_net o k words.now set ≡ Nodes n }
+    requires net { check_net o k words.now set ≡ Ok n }
     requires room { length questions.now / 4 * 31 ≤ length text.old }
     ensures { Wrote (lines_of o k words.now set (length questions.now / 4) questions.now) text.old text.new result }
 {
     let mut marks = [0u8; 1024];
     let mut held = Held { node: n, count: 0 };
     let mut at: usize = 0;
-    let mut i: usize = 0;
-    while i < questions.len() / 4 {
+    for i in 0..questions.len() / 4 {
         let x = u16_at(questions, i * 4);
         let y = u16_at(questions, i * 4 + 2);
         let turn = ask_pair(o, k, n, words, set, x, y, held, &mut marks);
         let asked = turn.asked;
         held = turn.held;
         at += put_line(&mut text[at..], x, y, asked);
-        i += 1;
     }
     at
 }
@@ -48,17 +45,17 @@ fn put_net(
     k: u32,
     words: &[u32],
     set: u32,
-    checked: Checked,
+    checked: Result<usize, Refusal>,
     questions: &[u8],
     text: &mut [u8],
 ) -> usize
-    requires net { (n : ℕ) → checked ≡ Nodes n → check_net o k words.now set ≡ Nodes n }
+    requires net { (n : ℕ) → checked ≡ Ok n → check_net o k words.now set ≡ Ok n }
     requires room { (37 ≤ length text.old) × (length questions.now / 4 * 31 ≤ length text.old) }
     ensures { Wrote (net_text o k words.now set questions.now checked) text.old text.new result }
 {
     match checked {
-        Checked::Nodes(n) => put_lines(o, k, n, words, set, questions, text),
-        Checked::Refused(refusal) => {
+        Ok(n) => put_lines(o, k, n, words, set, questions, text),
+        Err(refusal) => {
             let reply = refusal_given(refusal);
             put_refused_net(text, reply.number, reply.first, reply.second)
         }

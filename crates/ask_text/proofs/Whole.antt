@@ -7,12 +7,12 @@ use native.Mathlib.Omega.{arith}
 use lib.ListN.{length, get_or, take, drop, length-append, length-take, length-drop, get_or-map}
 use borrow.Author.Tests.{eq-eqb, ne_eqb}
 use lib.Seq.{take_at}
+use Rattle.std.specs.Prelude.{Ok, Err}
 use Rattle.netfile_numbers.specs.Bytes.{u32_at, u32s}
 use Rattle.netfile_entry.specs.Entries.{entries, contents_size}
-use Rattle.netfile.specs.Contents.{file_limit, contents_of, stretch, cut, bodies_of}
+use Rattle.netfile.specs.declared.Malformed.{Malformed}
+use Rattle.netfile.specs.Contents.{file_limit, contents_of, stretch, cut, bodies_of, Contents}
 use Rattle.netfile.specs.Places.{words_start, SetStands}
-use Rattle.netfile.specs.declared.Contents.{Contents}
-use Rattle.netfile.specs.declared.Contents.TheVariants.{Bodies, Malformed}
 use Rattle.netfile_numbers.proofs.Reading.{length_words}
 use Rattle.netfile.proofs.Places.{says_place}
 use Rattle.netfile.proofs.Stretches.{stretches}
@@ -49,10 +49,11 @@ pub record Handed (s nodes words questions origins : List ℕ) : Type 0 where
 
 module _ (s : List ℕ) {c : Contents} (e : c ≡ contents_of s) where
   -- Four bodies of a file that is not malformed: their text is the file's, and it fits.
-  pub handed : {A : Type 0} (now : A → List ℕ) (r : List A) (z : A) {q d : ℕ} → c ≡ Bodies q d → map now r ≡ bodies_of s
+  pub handed : {A : Type 0} (now : A → List ℕ) (r : List A) (z : A) {p : ℕ × ℕ} → c ≡ Ok p → map now r ≡ bodies_of s
       → Handed s (now (get_or r 0 z)) (now (get_or r 1 z)) (now (get_or r 2 z)) (now (get_or r 3 z))
   unfolding text_of
-  handed now r z {q} {d} f g =
+  handed now r z {p} f g =
+      let (q, d) = p in
       let t = stretches s q d (sym e ∙ f) in
       let h : map now r ≡ cut s (contents_size (entries s)) (words_start (entries s) s) (words_start (entries s) s) q q d d (length s) = g ∙ t.says _ _ _ in
       let body : (i : ℕ) → now (get_or r i z) ≡ get_or (cut s (contents_size (entries s)) (words_start (entries s) s) (words_start (entries s) s) q q d d (length s)) i (now z) =
@@ -69,14 +70,14 @@ module _ (s : List ℕ) {c : Contents} (e : c ≡ contents_of s) where
         questions_room = rw n2 (simp (length-take, length-drop) (omega (arith, t.limit, t.end)));
       }
     where
-      last : SetStands s d → (length (stretch s d (length s)) ≡ 0 → ⊥) → 4 ≤ length (stretch s d (length s))
+      last : SetStands s p.1 → (length (stretch s p.1 (length s)) ≡ 0 → ⊥) → 4 ≤ length (stretch s p.1 (length s))
       last (inl h) n = absurd (n (simp (length-take, length-drop) (omega (arith, h.1))))
       last (inr h) n = simp (length-take, length-drop) (omega (arith, h.1))
 
   -- The line of a malformed one.
-  pub file_report_lem : {p : ℕ} → c ≡ Malformed p → field file_word (field (decimal 9) (last_field (decimal p))) ≡ text_of s
+  pub file_report_lem : {m : Malformed} → c ≡ Err m → field file_word (field (decimal 9) (last_field (decimal m.place))) ≡ text_of s
   unfolding text_of
-  file_report_lem {p} f = sym (says_place s p (sym e ∙ f) _ _ _)
+  file_report_lem {m} f = sym (says_place s m.place (sym e ∙ f) _ _ _)
 
 -- What is printed stands in front of the text.
 pub printed : (s rest : List ℕ) {left : List ℕ} {r : ℕ} → left ≡ text_of s ++ rest → r ≡ length (text_of s) → (r ≤ length left) × (r ≡ length (take r left))

@@ -1,8 +1,7 @@
 -- The text that `ask` prints for a file.
-use Rattle.std.specs.Prelude.{ℕ, ◌/◌, cond, List, eqb, length}
+use Rattle.std.specs.Prelude.{ℕ, ◌/◌, cond, List, eqb, length, Err}
 use Rattle.netfile_numbers.specs.Bytes.{u32_at, u32s}
-use Rattle.netfile.specs.Contents.{contents_reply, entries_of, stretch}
-use Rattle.netfile.specs.declared.Contents.TheVariants.{Malformed}
+use Rattle.netfile.specs.Contents.{contents_reply, entries_of, stretch, malformed_at}
 use Rattle.ask_net.specs.Lines.{chosen_text, plain_text}
 use Rattle.text_field.specs.Decimal.{decimal}
 use Rattle.ask_answer.specs.Ending.{field, last_field}
@@ -20,7 +19,7 @@ bodies_text nodes words questions origins =
 
 -- The text for a malformed one: its number and the place.
 abbrev pub file_report : ℕ → List ℕ
-file_report place = field file_word (field (decimal (contents_reply (Malformed place)).number) (last_field (decimal (contents_reply (Malformed place)).first)))
+file_report place = field file_word (field (decimal (contents_reply (Err (malformed_at place))).number) (last_field (decimal (contents_reply (Err (malformed_at place))).first)))
 
 -- All that `ask` prints for a file, whose bodies are the stretches between each entry's start and end.
 unfoldable pub text_of : List ℕ → List ℕ

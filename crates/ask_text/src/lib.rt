@@ -8,7 +8,7 @@ ghost use Rattle.ask_text.specs.Text.{bodies_text, text_of};
 
 use ask_line::put_report;
 use ask_net::{answer_net, answer_plain};
-use netfile::{Contents, read_bodies, read_contents};
+use netfile::{read_bodies, read_contents};
 use netfile_numbers::{read_words, u32_at};
 use text_field::LINE_END;
 
@@ -42,12 +42,11 @@ fn answer_bodies(
 pub fn answer_file(file: &[u8], text: &mut [u8; 262144]) -> usize
     ensures { (text.new ≡ text_of file.now ++ drop (length (text_of file.now)) text.old) × (result ≡ length (text_of file.now)) }
 {
-    let contents = read_contents(file);
-    match contents {
-        Contents::Bodies(_, _) => {
+    match read_contents(file) {
+        Ok(_) => {
             let bodies = read_bodies(file);
             answer_bodies(bodies[0], bodies[1], bodies[2], bodies[3], text)
         }
-        Contents::Malformed(place) => put_report(text, b"file", 9, place, LINE_END),
+        Err(malformed) => put_report(text, b"file", 9, malformed.place, LINE_END),
     }
 }

@@ -7,24 +7,17 @@ ghost use Rattle.check_word.specs.Table.{check_word};
 use net::{NODE_LIMIT, Refusal, refuse_word};
 use net_word::{ORIGIN_LIMIT, is_legal};
 
-// What the test of a word answers.
-#[derive(Drop)]
-pub enum WordChecked {
-    Legal,
-    Refused(Refusal),
-}
-
 // The test of one word for a net of `o` objects and `k` kinds.
-pub fn check_word(o: u32, k: u32, word: u32) -> WordChecked
+pub fn check_word(o: u32, k: u32, word: u32) -> Result<(), Refusal>
     ensures { result ≡ check_word o k word }
 {
     let objects = o as usize;
     let n = objects + k as usize;
     if NODE_LIMIT < n {
-        return WordChecked::Refused(Refusal::TooManyNodes);
+        return Err(Refusal::TooManyNodes);
     }
     if !is_legal(ORIGIN_LIMIT, objects, n, word) {
-        return WordChecked::Refused(refuse_word(n, 0, word));
+        return Err(refuse_word(n, 0, word));
     }
-    WordChecked::Legal
+    Ok(())
 }

@@ -1,4 +1,5 @@
 -- Each outcome of a clash test, in the terms of the code.
+use Rattle.std.specs.Prelude.{Ok, Err, Some, None}
 use Prim.Native.Nat.{ℕ, ◌<◌, ◌≤◌}
 use mathlib.Core.Path.{◌≡◌, refl, ap, ◌∙◌}
 use mathlib.Core.Bool.{cond}
@@ -8,19 +9,17 @@ use lib.ListN.{length, drop, replicate}
 use Rattle.net.specs.Clauses.{call}
 use Rattle.net.specs.declared.Refusal.TheVariants.{ShortBuffer}
 use Rattle.scan_start.specs.Starts.{cleared}
-use Rattle.clash.specs.Table.{clash_outcome, nowhere, clash_clauses, clash_done}
-use Rattle.clash.specs.declared.Clashed.{Clashed}
-use Rattle.clash.specs.declared.Clashed.TheVariants as clashed
+use Rattle.clash.specs.Table.{Clashed, clash_outcome, nowhere, clash_clauses, clash_done}
 
 -- What a search comes to, by numbers 7 and 0.
-clash_over : (c : Clashed) (m : List ℕ) → clash_outcome c m ≡ cond (nowhere c) (clash_outcome clashed.Nowhere m) (clash_outcome c m)
-clash_over (clashed.At x y) m = refl
-clash_over clashed.Nowhere m = refl
-clash_over (clashed.Refused r) m = refl
+clash_over : (c : Clashed) (m : List ℕ) → clash_outcome c m ≡ cond (nowhere c) (clash_outcome (Ok None) m) (clash_outcome c m)
+clash_over (Ok (Some found)) m = refl
+clash_over (Ok None) m = refl
+clash_over (Err r) m = refl
 
 module _ (found : Clashed) (m : List ℕ) (n : ℕ) where
   -- Number 5.
-  pub clash_short : length m < n → clash_outcome (clashed.Refused ShortBuffer) m ≡ call (clash_clauses found m n) (clash_done found m n)
+  pub clash_short : length m < n → clash_outcome (Err ShortBuffer) m ≡ call (clash_clauses found m n) (clash_done found m n)
   clash_short h = rw (lt-ltb (length m) n h)
 
   -- Numbers 7 and 0: the code searched, was left with the marks m₁, and cleared them to m₂.

@@ -1,4 +1,5 @@
 -- The search for a node that clashes, in the terms of a loop that has come to node x.
+use Rattle.std.specs.Prelude.{Ok, Some, None}
 use Prim.Native.Nat.{ℕ, zero, suc, ◌+◌, ◌-◌, ◌<◌, ◌≤◌}
 use mathlib.Core.Path.{◌≡◌, refl, sym, ap, ◌∙◌}
 use mathlib.Core.Bool.{cond, ◌&&◌}
@@ -12,7 +13,6 @@ use Rattle.theory.specs.Marks.{says_yes, says_no}
 use Rattle.theory.specs.Scans.{full_scan}
 use Rattle.theory.specs.Completion.{full_marks}
 use Rattle.clash.specs.Table.{first_both, first_clash}
-use Rattle.clash.specs.declared.Clashed.TheVariants as clashed
 
 -- Bytes past the nodes play no part in the search over kinds.
 both_frame : (m : List ℕ) (n y j : ℕ) → y + j ≤ n → first_both (take n m) y j ≡ first_both m y j
@@ -35,7 +35,7 @@ module _ (o k : ℕ) (ws : List ℕ) (end : ℕ) where
   clash_whole = let e : end ≡ end - 0 = omega arith in ap (first_clash o k ws 0) e
 
   module _ (x : ℕ) where
-    pub clash_stop : (y : ℕ) → x < end → y ≡ first_both (full_marks o k ws x) o k → y < o + k → clashed.At x y ≡ first_clash o k ws x (end - x)
+    pub clash_stop : (y : ℕ) → x < end → y ≡ first_both (full_marks o k ws x) o k → y < o + k → Ok (Some (x, y)) ≡ first_clash o k ws x (end - x)
     unfolding first_clash
     clash_stop y h e l =
         let i : end - x ≡ suc (end - suc x) = omega arith in
@@ -47,7 +47,7 @@ module _ (o k : ℕ) (ws : List ℕ) (end : ℕ) where
         let i : end - x ≡ suc (end - suc x) = omega arith in
         rw (add-one x, i, ← e, le-ltb y (o + k) l)
 
-    pub clash_end : end ≤ x → first_clash o k ws x (end - x) ≡ clashed.Nowhere
+    pub clash_end : end ≤ x → first_clash o k ws x (end - x) ≡ Ok None
     unfolding first_clash
     clash_end h =
         let i : end - x ≡ 0 = omega arith in

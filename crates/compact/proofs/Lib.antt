@@ -1,4 +1,3 @@
-pub mod Zeros
 pub mod Outcomes
 pub mod Replies
 pub mod Readings

@@ -1,4 +1,5 @@
 -- Each outcome of a compaction, in the terms of the code.
+use Rattle.std.specs.Prelude.{Err, Ok}
 use Prim.Native.Nat.{ℕ, ◌-◌, ◌<◌, ◌≤◌}
 use mathlib.Core.Path.{◌≡◌, sym, ap, ◌∙◌}
 use mathlib.Core.List.{List, ◌++◌}
@@ -17,11 +18,10 @@ use Rattle.theory.proofs.compaction.Thinning.{tidied_legal}
 use Rattle.net.specs.Clauses.{call}
 use Rattle.net.specs.declared.Refusal.TheVariants.{ShortBuffer}
 use Rattle.compact.specs.Table.{compaction_outcome, compaction_clauses, compaction_done}
-use Rattle.compact.specs.declared.CompactedList.TheVariants.{Done, Refused}
 
 module _ (o k n : ℕ) (ws m : List ℕ) where
   -- Number 5.
-  pub compact_short : length m < n → compaction_outcome (Refused ShortBuffer) ws m ≡ call (compaction_clauses ws m n) (compaction_done (compacted o k ws) ws m n)
+  pub compact_short : length m < n → compaction_outcome (Err ShortBuffer) ws m ≡ call (compaction_clauses ws m n) (compaction_done (compacted o k ws) ws m n)
   compact_short h = rw (lt-ltb (length m) n h)
 
   -- The list sorted, then without repeats: what stands in front.
@@ -46,7 +46,7 @@ module _ (o k n : ℕ) (ws m : List ℕ) where
     -- Number 0.
     pub compact_done : n ≤ length m → (l₃ : List ℕ) {l₄ d₃ m₄ : List ℕ} {r : ℕ} → take r l₃ ≡ thin o k count (take count l₂) → r ≤ count → length l₃ ≡ length l₂
         → l₄ ≡ take r l₃ ++ replicate (length l₃ - r) 0 → m₄ ≡ blank n ++ d₃ → d₃ ≡ drop n m
-        → compaction_outcome (Done r) l₄ m₄ ≡ call (compaction_clauses ws m n) (compaction_done (compacted o k ws) ws m n)
+        → compaction_outcome (Ok r) l₄ m₄ ≡ call (compaction_clauses ws m n) (compaction_done (compacted o k ws) ws m n)
     compact_done room l₃ {r = r} t f g z b d =
         let K : take r l₃ ≡ compacted o k ws = t ∙ ap (thin o k count) front ∙ ap (λ (j : ℕ). thin o k j (tidied ws)) same_count in
         let i : r ≡ length (compacted o k ws) = sym (length-take-le r l₃ (omega (arith, tidied_fits.0))) ∙ ap length K in

@@ -1,12 +1,15 @@
 -- The number table of the compaction of a list.
-use Rattle.std.specs.Prelude.{ℕ, ◌+◌, ◌-◌, List, [], ◌∷◌, ◌++◌, ltb, length, replicate}
+use Rattle.std.specs.Prelude.{ℕ, ◌+◌, ◌-◌, List, [], ◌∷◌, ◌++◌, ltb, length, replicate, Err, Ok, Result}
 use Rattle.theory.specs.Compaction.{compacted}
 use Rattle.net.specs.Clauses.{Clause, clause, call}
 use Rattle.net.specs.Table.{plain_clauses, Reply, reply, refusal_reply}
+use Rattle.net.specs.declared.Refusal.{Refusal}
 use Rattle.net.specs.declared.Refusal.TheVariants.{ShortBuffer}
 use Rattle.scan_start.specs.Starts.{cleared}
-use Rattle.compact.specs.declared.CompactedList.{CompactedList}
-use Rattle.compact.specs.declared.CompactedList.TheVariants as compactedList
+
+-- What a compaction answers: how many words are left, or a refusal.
+abbrev pub CompactedList : Type 0
+CompactedList = Result ℕ Refusal
 
 -- The outcome of a compaction: its answer, the list and the marks.
 pub record CompactionOutcome : Type 0 where
@@ -23,14 +26,14 @@ freed kept ws = kept ++ replicate (length ws - length kept) 0
 
 -- Clause 5 on n nodes.
 abbrev pub compaction_clauses : List ℕ → List ℕ → ℕ → List (Clause CompactionOutcome)
-compaction_clauses ws m n = clause 5 (ltb (length m) n) (compaction_outcome (compactedList.Refused ShortBuffer) ws m) ∷ []
+compaction_clauses ws m n = clause 5 (ltb (length m) n) (compaction_outcome (Err ShortBuffer) ws m) ∷ []
 
 -- Number 0, where ws is compacted to `kept`: its length, the list, and the marks of the nodes zero.
 abbrev pub compaction_done : List ℕ → List ℕ → List ℕ → ℕ → CompactionOutcome
-compaction_done kept ws m n = compaction_outcome (compactedList.Done (length kept)) (freed kept ws) (cleared n m)
+compaction_done kept ws m n = compaction_outcome (Ok (length kept)) (freed kept ws) (cleared n m)
 
 abbrev pub compaction_table : ℕ → ℕ → List ℕ → List ℕ → List (Clause CompactionOutcome)
-compaction_table o k ws m = plain_clauses (λ r. compaction_outcome (compactedList.Refused r) ws m) o k ws (compaction_clauses ws m (o + k))
+compaction_table o k ws m = plain_clauses (λ r. compaction_outcome (Err r) ws m) o k ws (compaction_clauses ws m (o + k))
 
 -- The compaction of the list ws.
 abbrev pub compacted_by : ℕ → ℕ → List ℕ → List ℕ → CompactionOutcome
@@ -38,5 +41,5 @@ compacted_by o k ws m = call (compaction_table o k ws m) (compaction_done (compa
 
 -- The paper's number and value for each answer.
 abbrev pub compacted_reply : CompactedList → Reply
-compacted_reply (compactedList.Done size) = reply 0 size 0
-compacted_reply (compactedList.Refused r) = refusal_reply r
+compacted_reply (Ok size) = reply 0 size 0
+compacted_reply (Err r) = refusal_reply r

@@ -31,11 +31,7 @@ fn remove_at(words: &mut [u32], i: usize, end: usize)
     requires { (i < end) × (end ≤ length words.old) }
     ensures { words.new ≡ without i (take end words.old) ++ drop (end - 1) words.old }
 {
-    let mut at = i;
-    while at < end - 1 {
-        words[at] = words[at + 1];
-        at += 1;
-    }
+    words.copy_within(i + 1..end, i);
 }
 
 // Tests the word at place `i` of the first `end` words against the others, and takes it out if they support it; whether they do.
@@ -86,9 +82,7 @@ pub fn thin_words(
     ensures past { drop n marks.new ≡ drop n marks.old }
 {
     let mut end = count;
-    let mut i = count;
-    while 0 < i {
-        i -= 1;
+    for i in (0..count).rev() {
         if thin_one(o, k, n, i, end, words, marks) {
             end -= 1;
         }

@@ -1,4 +1,6 @@
 -- Each outcome of a completion, in the terms of the code.
+use Rattle.completion.specs.declared.CompletionError.TheVariants as completed
+use Rattle.std.specs.Prelude.{Err, Ok}
 use Prim.Native.Nat.{ℕ, ◌*◌, ◌<◌, ◌≤◌}
 use mathlib.Core.Path.{◌≡◌, refl, ap, ◌∙◌}
 use mathlib.Core.List.{List, ◌++◌}
@@ -10,8 +12,7 @@ use Rattle.theory_laws.specs.Over.{over}
 use Rattle.net.specs.Clauses.{call}
 use Rattle.net.specs.declared.Refusal.TheVariants.{ShortBuffer}
 use Rattle.completion.specs.Table.{completion_outcome, completion_clauses, completion_done}
-use Rattle.completion.specs.declared.Completed.{Completed}
-use Rattle.completion.specs.declared.Completed.TheVariants as completed
+use Rattle.completion.specs.Table.{Completed}
 
 same : {r q : Completed} {m m' l l' : List ℕ} → r ≡ q → m ≡ m' → l ≡ l' → completion_outcome r m l ≡ completion_outcome q m' l'
 same e f g = λ i. record { answer = e i; marks = f i; list = g i }
@@ -22,25 +23,25 @@ few_places n k h g = let e = mul-le-mul_right (k * 2) h in omega arith
 
 module _ (all m l : List ℕ) (n : ℕ) where
   -- Number 5.
-  pub complete_unmarked : length m < n → completion_outcome (completed.Refused ShortBuffer) m l ≡ call (completion_clauses all m l n) (completion_done all m l n)
+  pub complete_unmarked : length m < n → completion_outcome (Err (completed.Refused ShortBuffer)) m l ≡ call (completion_clauses all m l n) (completion_done all m l n)
   complete_unmarked h = rw (lt-ltb (length m) n h)
 
   -- The code counted, and was left with the marks m₁.
   module _ (h : n ≤ length m) (size : ℕ) (e : size ≡ length all) (m₁ : List ℕ) (p : drop n m₁ ≡ drop n m) where
     -- Number 8: it cleared the marks.
-    pub complete_short : length l < size → (m₂ : List ℕ) → m₂ ≡ replicate n 0 ++ drop n m₁ → completion_outcome (completed.Short size) m₂ l ≡ call (completion_clauses all m l n) (completion_done all m l n)
+    pub complete_short : length l < size → (m₂ : List ℕ) → m₂ ≡ replicate n 0 ++ drop n m₁ → completion_outcome (Err (completed.Short size)) m₂ l ≡ call (completion_clauses all m l n) (completion_done all m l n)
     complete_short f m₂ c =
         let g : length l < length all = omega (arith, e) in
         rw (le-ltb (length m) n h, lt-ltb (length l) (length all) g)
-        (same (ap completed.Short e) (c ∙ ap (λ (q : List ℕ). replicate n 0 ++ q) p) refl)
+        (same (ap (λ (q : ℕ). Err (completed.Short q)) e) (c ∙ ap (λ (q : List ℕ). replicate n 0 ++ q) p) refl)
 
     -- Number 0: it wrote, was left with the marks m₂, and cleared them.
     pub complete_done : size ≤ length l → (m₂ m₃ l₁ : List ℕ) → drop n m₂ ≡ drop n m₁ → m₃ ≡ replicate n 0 ++ drop n m₂ → l₁ ≡ over all l
-        → completion_outcome (completed.Done size) m₃ l₁ ≡ call (completion_clauses all m l n) (completion_done all m l n)
+        → completion_outcome (Ok size) m₃ l₁ ≡ call (completion_clauses all m l n) (completion_done all m l n)
     complete_done f m₂ m₃ l₁ q c w =
         let g : length all ≤ length l = omega (arith, e) in
         rw (le-ltb (length m) n h, le-ltb (length l) (length all) g)
-        (same (ap completed.Done e) (c ∙ ap (λ (r : List ℕ). replicate n 0 ++ r) (q ∙ p)) w)
+        (same (ap Ok e) (c ∙ ap (λ (r : List ℕ). replicate n 0 ++ r) (q ∙ p)) w)
 
   -- What stands in the marks of the nodes plays no part: the code may have scanned, and been left with the marks m₁.
   pub complete_spoilt : n ≤ length m → (m₁ : List ℕ) → length m₁ ≡ length m → drop n m₁ ≡ drop n m

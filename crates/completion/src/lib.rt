@@ -5,18 +5,26 @@ ghost use Rattle.std.specs.Prelude.{◌≡◌, ◌+◌, ◌≤◌, length};
 ghost use Rattle.theory.specs.Origins.{chosen, NetFrom};
 ghost use Rattle.theory.specs.Completion.{complete};
 ghost use Rattle.completion.specs.Table.{completion_outcome, completion_clauses, completion_done, completed_by};
+ghost use Rattle.completion.specs.declared.CompletionError.TheVariants.{Refused};
 ghost use Rattle.net.specs.Clauses.{call};
 
 use completion_list::{count_rows, write_rows};
-use net::{Checked, Refusal, check_net};
+use net::{Refusal, check_net};
 use scan_start::clear;
 
-// What a completion answers: how many words it wrote, or how many the list would need (number 8), or a refusal.
-#[derive(Drop)]
-pub enum Completed {
-    Done(usize),
+// Why a completion was not written: how many words the list would need room for (number 8), or a refusal.
+#[derive(Clone, Copy)]
+pub enum CompletionError {
     Short(usize),
     Refused(Refusal),
+}
+
+impl From<Refusal> for CompletionError {
+    ghost from_gives = { λ refusal e. e ≡ Refused refusal };
+
+    fn from(refusal: Refusal) -> CompletionError {
+        CompletionError::Refused(refusal)
+    }
 }
 
 // Number 0 where the list has room for the words: one scan for each node.
@@ -28,7 +36,7 @@ fn complete_at_once(
     set: u32,
     marks: &mut [u8],
     list: &mut [u32],
-) -> Completed
+) -> Result<usize, CompletionError>
     requires net { NetFrom o k words.now }
     requires size { n ≡ o + k }
     requires room { n ≤ length marks.old }
@@ -37,7 +45,7 @@ fn complete_at_once(
 {
     let size = write_rows(o, k, n, words, set, marks, list);
     clear(n, marks);
-    Completed::Done(size)
+    Ok(size)
 }
 
 // Numbers 8 and 0: the words are counted first, so that a list that is too short stays as it was.
@@ -49,7 +57,7 @@ fn complete_counted(
     set: u32,
     marks: &mut [u8],
     list: &mut [u32],
-) -> Completed
+) -> Result<usize, CompletionError>
     requires net { NetFrom o k words.now }
     requires size { n ≡ o + k }
     requires room { n ≤ length marks.old }
@@ -58,7 +66,7 @@ fn complete_counted(
     let size = count_rows(o, k, n, words, set, marks);
     if list.len() < size {
         clear(n, marks);
-        return Completed::Short(size);
+        return Err(CompletionError::Short(size));
     }
     complete_at_once(o, k, n, words, set, marks, list)
 }
@@ -72,13 +80,13 @@ fn complete_checked(
     set: u32,
     marks: &mut [u8],
     list: &mut [u32],
-) -> Completed
+) -> Result<usize, CompletionError>
     requires net { NetFrom o k words.now }
     requires size { n ≡ o + k }
     ensures { completion_outcome result marks.new list.new ≡ call (completion_clauses (complete o k (chosen set words.now)) marks.old list.old n) (completion_done (complete o k (chosen set words.now)) marks.old list.old n) }
 {
     if marks.len() < n {
-        return Completed::Refused(Refusal::ShortBuffer);
+        return Err(CompletionError::Refused(Refusal::ShortBuffer));
     }
     let most = n * (k as usize * 2);
     if list.len() < most {
@@ -87,7 +95,7 @@ fn complete_checked(
     complete_at_once(o, k, n, words, set, marks, list)
 }
 
-// The completion of a net: the words it writes are plain.
+// The completion of a net, how many words it has: they are plain.
 pub fn complete_net(
     o: u32,
     k: u32,
@@ -95,12 +103,9 @@ pub fn complete_net(
     set: u32,
     marks: &mut [u8],
     list: &mut [u32],
-) -> Completed
+) -> Result<usize, CompletionError>
     ensures { completion_outcome result marks.new list.new ≡ completed_by o k words.now set marks.old list.old }
 {
-    let net = check_net(o, k, words, set);
-    match net {
-        Checked::Refused(refusal) => Completed::Refused(refusal),
-        Checked::Nodes(n) => complete_checked(o, k, n, words, set, marks, list),
-    }
+    let n = check_net(o, k, words, set)?;
+    complete_checked(o, k, n, words, set, marks, list)
 }

@@ -11,11 +11,8 @@ pub fn count_row(o: usize, n: usize, marks: &[u8]) -> usize
     ensures { result ≡ length (row 0 marks.now o (n - o)) }
 {
     let mut size = 0;
-    let mut y = o;
-    while y < n {
-        let byte = marks[y];
+    for &byte in &marks[o..n] {
         size += (byte / 4 % 2 + byte / 2 % 2) as usize;
-        y += 1;
     }
     size
 }
@@ -49,12 +46,9 @@ pub fn write_row(o: usize, n: usize, x: u32, marks: &[u8], list: &mut [u32]) -> 
     ensures written { list.new ≡ over (row x marks.now o (n - o)) list.old }
 {
     let mut at = 0;
-    let mut y = o;
-    while y < n {
-        let byte = marks[y];
-        let put = write_cell(x, y as u32, byte, &mut list[at..]);
+    for y in o..n {
+        let put = write_cell(x, y as u32, marks[y], &mut list[at..]);
         at += put;
-        y += 1;
     }
     at
 }

@@ -21,12 +21,10 @@ pub fn count_rows(o: u32, k: u32, n: usize, words: &[u32], set: u32, marks: &mut
     let objects = o as usize;
     let nodes = n as u32;
     let mut size = 0;
-    let mut x = 0;
-    while x < nodes {
+    for x in 0..nodes {
         full_scan(o, k, n, words, set, x, marks);
         let more = count_row(objects, n, marks);
         size += more;
-        x += 1;
     }
     size
 }
@@ -53,12 +51,10 @@ pub fn write_rows(
     let objects = o as usize;
     let nodes = n as u32;
     let mut at = 0;
-    let mut x = 0;
-    while x < nodes {
+    for x in 0..nodes {
         full_scan(o, k, n, words, set, x, marks);
         let size = write_row(objects, n, x, marks, &mut list[at..]);
         at += size;
-        x += 1;
     }
     at
 }

@@ -1,4 +1,5 @@
 -- What each verdict means, that the lines from a reason hold, and that a derivation is written in one way.
+use Rattle.std.specs.Prelude.{Err, Ok}
 use Prim.Native.Nat.{ℕ, ◌+◌, ◌%◌, ◌<◌}
 use mathlib.Core.Path.{◌≡◌, refl, sym, ◌∙◌}
 use mathlib.Core.Bool.{Bool, true, false, cond}
@@ -17,18 +18,14 @@ use Rattle.theory.specs.Support.{Supported}
 use Rattle.theory.specs.Reasons.{never}
 use Rattle.theory.specs.Searches.{distances, reason_states, reason_list}
 use Rattle.theory.proofs.origins.Statements.{chosen_net}
-use Rattle.net.specs.Table.{check_net, bad_statement}
+use Rattle.net.specs.Table.{check_net, bad_statement, Checked}
 use Rattle.net.specs.Good.{GoodStatement}
 use Rattle.net.specs.declared.Refusal.{Refusal}
 use Rattle.net.specs.declared.Refusal.TheVariants.{BadQuestion}
-use Rattle.net.specs.declared.Checked.{Checked}
-use Rattle.net.specs.declared.Checked.TheVariants as checked
 use Rattle.net.proofs.NetCheck.{nodes_exactly}
 use Rattle.net.proofs.OnNet.{passed_on, gone_on}
 use Rattle.net.proofs.Good.{good_statement, good_kind}
-use Rattle.reason_check.specs.Table.{check_clauses}
-use Rattle.reason_check.specs.declared.Verdict.{Verdict}
-use Rattle.reason_check.specs.declared.Verdict.TheVariants.{Holds, Fails, Refused}
+use Rattle.reason_check.specs.Table.{check_clauses, Verdict}
 use Rattle.reason_check.proofs.Exactly.{Accepted}
 use Rattle.derivation_lines.specs.Tests.{derives}
 use Rattle.derivation_lines.specs.Flat.{flat, lines_of, derive_list}
@@ -46,17 +43,11 @@ accepts_exactly o k set ws x y s l =
 
 -- The verdict on a net, by its two tests.
 abbrev judged : Bool → Bool → Verdict
-judged bad good = cond bad (Refused BadQuestion) (cond good Holds Fails)
+judged bad good = cond bad (Err BadQuestion) (Ok good)
 
-judged_holds : (b p : Bool) → judged b p ≡ Holds → (b ≡ false) × (p ≡ true)
-judged_holds true p e = let z : ◌≡◌ {A = ℕ} 0 1 = cc in absurd (omega arith)
-judged_holds false true e = (refl, refl)
-judged_holds false false e = let z : ◌≡◌ {A = ℕ} 0 1 = cc in absurd (omega arith)
-
-judged_fails : (b p : Bool) → judged b p ≡ Fails → (b ≡ false) × (p ≡ false)
-judged_fails true p e = let z : ◌≡◌ {A = ℕ} 0 1 = cc in absurd (omega arith)
-judged_fails false true e = let z : ◌≡◌ {A = ℕ} 0 1 = cc in absurd (omega arith)
-judged_fails false false e = (refl, refl)
+judged_ok : (b p q : Bool) → judged b p ≡ Ok q → (b ≡ false) × (p ≡ q)
+judged_ok true p q e = let z : ◌≡◌ {A = ℕ} 0 1 = cc in absurd (omega arith)
+judged_ok false p q e = (refl, cc)
 
 module _ (o k : ℕ) (ws : List ℕ) (set x y sign : ℕ) (l : List ℕ) where
   bad : Bool
@@ -68,18 +59,18 @@ module _ (o k : ℕ) (ws : List ℕ) (set x y sign : ℕ) (l : List ℕ) where
   judged_accepted : Accepted o k ws set → judged bad good ≡ lines_verdict o k ws set x y sign l
   unfolding bad good
   judged_accepted net =
-      gone_on Refused o k ws set (check_clauses o x y sign) (λ _. lines_done o k set ws x y sign l) ((nodes_exactly o k ws set (o + k)).1 (refl, net.0, net.1)) refl
+      gone_on Err o k ws set (check_clauses o x y sign) (λ _. lines_done o k set ws x y sign l) ((nodes_exactly o k ws set (o + k)).1 (refl, net.0, net.1)) refl
 
   -- The check of the net accepts it, or its refusal is the verdict.
   data Case : Type 0 where
     accepted : Accepted o k ws set → judged bad good ≡ lines_verdict o k ws set x y sign l → Case
-    refused : (r : Refusal) → Refused r ≡ lines_verdict o k ws set x y sign l → Case
+    refused : (r : Refusal) → Err r ≡ lines_verdict o k ws set x y sign l → Case
 
   cases : (c : Checked) → check_net o k ws set ≡ c → Case
-  cases (checked.Nodes n) e =
+  cases (Ok n) e =
       let g = (nodes_exactly o k ws set n).0 e in
       accepted (g.1, g.2) (judged_accepted (g.1, g.2))
-  cases (checked.Refused r) e = refused r (passed_on Refused o k ws set (check_clauses o x y sign) (λ _. lines_done o k set ws x y sign l) e)
+  cases (Err r) e = refused r (passed_on Err o k ws set (check_clauses o x y sign) (λ _. lines_done o k set ws x y sign l) e)
 
   asked : (bad ≡ false) ↔ GoodStatement o (o + k) x y sign
   unfolding bad
@@ -90,39 +81,39 @@ module _ (o k : ℕ) (ws : List ℕ) (set x y sign : ℕ) (l : List ℕ) where
   tested = accepts_exactly o k set ws x y (sign_at sign) l
 
   -- The lines hold exactly if net and set are accepted, the statement may be asked, and they derive it.
-  pub holds_exactly : (lines_verdict o k ws set x y sign l ≡ Holds) ↔ (Accepted o k ws set × GoodStatement o (o + k) x y sign × DerivationOf o k set ws x y (sign_at sign) l)
+  pub holds_exactly : (lines_verdict o k ws set x y sign l ≡ Ok true) ↔ (Accepted o k ws set × GoodStatement o (o + k) x y sign × DerivationOf o k set ws x y (sign_at sign) l)
   holds_exactly = (at (cases (check_net o k ws set) refl), back)
     where
-      at : Case → lines_verdict o k ws set x y sign l ≡ Holds → Accepted o k ws set × GoodStatement o (o + k) x y sign × DerivationOf o k set ws x y (sign_at sign) l
+      at : Case → lines_verdict o k ws set x y sign l ≡ Ok true → Accepted o k ws set × GoodStatement o (o + k) x y sign × DerivationOf o k set ws x y (sign_at sign) l
       at (accepted net j) e =
-          let (b, g) = judged_holds bad good (j ∙ e) in
+          let (b, g) = judged_ok bad good true (j ∙ e) in
           (net, asked.0 b, tested.0 g)
       at (refused r j) e = let z : ◌≡◌ {A = ℕ} 0 1 = cc in absurd (omega arith)
 
-      back : Accepted o k ws set × GoodStatement o (o + k) x y sign × DerivationOf o k set ws x y (sign_at sign) l → lines_verdict o k ws set x y sign l ≡ Holds
+      back : Accepted o k ws set × GoodStatement o (o + k) x y sign × DerivationOf o k set ws x y (sign_at sign) l → lines_verdict o k ws set x y sign l ≡ Ok true
       back h = sym (judged_accepted h.0) ∙ rw (asked.1 h.1, tested.1 h.2)
 
   -- They fail exactly if net and set are accepted, the statement may be asked, and they do not derive it.
-  pub fails_exactly : (lines_verdict o k ws set x y sign l ≡ Fails) ↔ (Accepted o k ws set × GoodStatement o (o + k) x y sign × (DerivationOf o k set ws x y (sign_at sign) l → ⊥))
+  pub fails_exactly : (lines_verdict o k ws set x y sign l ≡ Ok false) ↔ (Accepted o k ws set × GoodStatement o (o + k) x y sign × (DerivationOf o k set ws x y (sign_at sign) l → ⊥))
   fails_exactly = (at (cases (check_net o k ws set) refl), back)
     where
-      at : Case → lines_verdict o k ws set x y sign l ≡ Fails → Accepted o k ws set × GoodStatement o (o + k) x y sign × (DerivationOf o k set ws x y (sign_at sign) l → ⊥)
+      at : Case → lines_verdict o k ws set x y sign l ≡ Ok false → Accepted o k ws set × GoodStatement o (o + k) x y sign × (DerivationOf o k set ws x y (sign_at sign) l → ⊥)
       at (accepted net j) e =
-          let (b, g) = judged_fails bad good (j ∙ e) in
+          let (b, g) = judged_ok bad good false (j ∙ e) in
           (net, asked.0 b, λ p. contradiction (sym g ∙ tested.1 p))
       at (refused r j) e = let z : ◌≡◌ {A = ℕ} 0 1 = cc in absurd (omega arith)
 
-      back : Accepted o k ws set × GoodStatement o (o + k) x y sign × (DerivationOf o k set ws x y (sign_at sign) l → ⊥) → lines_verdict o k ws set x y sign l ≡ Fails
+      back : Accepted o k ws set × GoodStatement o (o + k) x y sign × (DerivationOf o k set ws x y (sign_at sign) l → ⊥) → lines_verdict o k ws set x y sign l ≡ Ok false
       back h =
           let f : good ≡ false = not_so good (λ (g : good ≡ true). h.2 (tested.0 g)) in
           sym (judged_accepted h.0) ∙ rw (asked.1 h.1, f)
 
   -- What holds is supported by the chosen words, whoever wrote it.
-  pub holds_supported : lines_verdict o k ws set x y sign l ≡ Holds → Supported o k (Links (chosen set ws)) x y (sign_at sign)
+  pub holds_supported : lines_verdict o k ws set x y sign l ≡ Ok true → Supported o k (Links (chosen set ws)) x y (sign_at sign)
   holds_supported e = let (net, a, p) = holds_exactly.0 e in derives_supported o k set ws (lines_of l) x y (sign_at sign) p.lines
 
 -- A derivation that holds is written in one way: two lists that are read as the same lines are the same list.
-pub holds_one_way : (o k : ℕ) (ws : List ℕ) (set x y sign : ℕ) (l m : List ℕ) → lines_verdict o k ws set x y sign l ≡ Holds → lines_verdict o k ws set x y sign m ≡ Holds
+pub holds_one_way : (o k : ℕ) (ws : List ℕ) (set x y sign : ℕ) (l m : List ℕ) → lines_verdict o k ws set x y sign l ≡ Ok true → lines_verdict o k ws set x y sign m ≡ Ok true
     → lines_of l ≡ lines_of m → l ≡ m
 holds_one_way o k ws set x y sign l m e f same =
     let p = ((holds_exactly o k ws set x y sign l).0 e).2 in
@@ -132,7 +123,7 @@ holds_one_way o k ws set x y sign l m e f same =
 -- The lines from the reason of what is supported hold.
 pub reason_lines_hold : (o k : ℕ) (ws : List ℕ) (set : ℕ) → Accepted o k ws set → (x y sign : ℕ) → GoodStatement o (o + k) x y sign
     → get_or (distances (o + k) (sign_at sign) (chosen set ws) y) x never < never
-    → lines_verdict o k ws set x y sign (flat (derive_list o set ws (reason_list (o + k) x (reason_states (o + k) (sign_at sign) (chosen set ws) x y)))) ≡ Holds
+    → lines_verdict o k ws set x y sign (flat (derive_list o set ws (reason_list (o + k) x (reason_states (o + k) (sign_at sign) (chosen set ws) x y)))) ≡ Ok true
 reason_lines_hold o k ws set net x y sign may h =
     let plain = chosen_net set o k ws net.1 in
     let ls = derive_list o set ws (reason_list (o + k) x (reason_states (o + k) (sign_at sign) (chosen set ws) x y)) in

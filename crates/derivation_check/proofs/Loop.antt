@@ -1,11 +1,10 @@
 -- All lines, in the terms of the loop that goes over them.
 use Prim.Native.Nat.{ℕ, suc, ◌+◌, ◌*◌, ◌/◌, ◌<◌, ◌≤◌}
 use mathlib.Core.Path.{◌≡◌, ◌∙◌}
-use mathlib.Core.Bool.{Bool, true, false, not, ◌&&◌}
+use mathlib.Core.Bool.{Bool, true, false, ◌&&◌}
 use mathlib.Core.List.{List}
 use native.Mathlib.Omega.{arith}
 use native.Mathlib.Numerals.{add-one}
-use borrow.Author.Tests.{not-true, not-false}
 use lib.ListN.{length, get_or, drop, drop_of_length-le}
 use lib.Seq.{drop-cons}
 use Rattle.theory.specs.Words.{tail_of, head_of, sign_of}
@@ -27,11 +26,11 @@ module _ (o k set : ℕ) (ws l : List ℕ) (n : ℕ) where
     unfolding all_follow
     here = rw (drop-cons (lines_of l) n blank (omega (arith, lines_length l)), told)
 
-    pub lines_go : not b ≡ false → all_follow o k set ws (lines_of l) n (drop n (lines_of l)) ≡ all_follow o k set ws (lines_of l) (n + 1) (drop (n + 1) (lines_of l))
-    lines_go e = here ∙ rw (add-one n, not-false b e)
+    pub lines_go : b ≡ true → all_follow o k set ws (lines_of l) n (drop n (lines_of l)) ≡ all_follow o k set ws (lines_of l) (n + 1) (drop (n + 1) (lines_of l))
+    lines_go e = here ∙ rw (add-one n, e)
 
-    pub lines_stop : not b ≡ true → all_follow o k set ws (lines_of l) n (drop n (lines_of l)) ≡ false
-    lines_stop e = here ∙ rw (not-true b e)
+    pub lines_stop : b ≡ false → all_follow o k set ws (lines_of l) n (drop n (lines_of l)) ≡ false
+    lines_stop e = here ∙ rw e
 
   pub lines_end : length l / 4 ≤ n → all_follow o k set ws (lines_of l) n (drop n (lines_of l)) ≡ true
   unfolding all_follow

@@ -1,10 +1,10 @@
 -- The parts of the test, in the terms of the code.
 use Prim.Native.Nat.{ℕ, ◌-◌, ◌/◌, ◌%◌}
 use mathlib.Core.Path.{◌≡◌}
-use mathlib.Core.Bool.{Bool, true, false, not}
+use mathlib.Core.Bool.{Bool, true, false}
 use mathlib.Core.List.{List}
 use native.Mathlib.Omega.{arith}
-use borrow.Author.Tests.{le-ltb, eq-eqb, ne_eqb, not-true, not-false}
+use borrow.Author.Tests.{le-ltb, eq-eqb, ne_eqb}
 use lib.Dec.{eqb}
 use lib.ListN.{length}
 use Rattle.theory.specs.Words.{Sign}
@@ -23,14 +23,14 @@ module _ (o k set : ℕ) (ws : List ℕ) (x y : ℕ) (s : Sign) (l : List ℕ) w
   pub no_line : length l / 4 ≡ 0 → false ≡ accepts o k set ws x y s l
   no_line h = rw (le-ltb (length (lines_of l) - 1) (length (lines_of l)) (omega (arith, lines_length l)), and_false (eqb (length l % 4) 0))
 
-  module _ {u v : ℕ} {a : Bool} (from : u ≡ x) (to : v ≡ y) (last : a ≡ is_above (lines_of l) (length l / 4) (length l / 4 - 1) u v s) where
+  module _ {a : Bool} (last : a ≡ is_above (lines_of l) (length l / 4) (length l / 4 - 1) x y s) where
     said : a ≡ is_above (lines_of l) (length (lines_of l)) (length (lines_of l) - 1) x y s
-    said = rw (lines_length l, ← from, ← to) last
+    said = rw (lines_length l) last
 
     -- The last says something else.
-    pub other_last : not a ≡ true → false ≡ accepts o k set ws x y s l
-    other_last h = rw (← said, not-true a h, and_false (eqb (length l % 4) 0))
+    pub other_last : a ≡ false → false ≡ accepts o k set ws x y s l
+    other_last h = rw (← said, h, and_false (eqb (length l % 4) 0))
 
     -- The last is right, and the lines decide.
-    pub lines_decide : (length l % 4 ≡ 0) → not a ≡ false → {b : Bool} → b ≡ checks o k set ws (lines_of l) → b ≡ accepts o k set ws x y s l
-    lines_decide w h e = rw (eq-eqb (length l % 4) 0 w, ← said, not-false a h) e
+    pub lines_decide : (length l % 4 ≡ 0) → a ≡ true → {b : Bool} → b ≡ checks o k set ws (lines_of l) → b ≡ accepts o k set ws x y s l
+    lines_decide w h e = rw (eq-eqb (length l % 4) 0 w, ← said, h) e

@@ -1,10 +1,8 @@
 -- The number table of the check of a derivation: that of the reason check, with the lines in place of the path.
-use Rattle.std.specs.Prelude.{ℕ, ◌%◌, ◌≡◌, Bool, cond, ◌&&◌, List, eqb, length}
+use Rattle.std.specs.Prelude.{ℕ, ◌%◌, ◌≡◌, Bool, ◌&&◌, List, eqb, length, Ok}
 use Rattle.theory.specs.Words.{Sign, sign_at}
 use Rattle.net.specs.Clauses.{call}
-use Rattle.reason_check.specs.Table.{check_table}
-use Rattle.reason_check.specs.declared.Verdict.{Verdict}
-use Rattle.reason_check.specs.declared.Verdict.TheVariants.{Holds, Fails}
+use Rattle.reason_check.specs.Table.{check_table, Verdict}
 use Rattle.derivation_lines.specs.Lines.{Derives}
 use Rattle.derivation_lines.specs.Tests.{derives}
 use Rattle.derivation_lines.specs.Flat.{lines_of}
@@ -20,7 +18,7 @@ accepts o k set ws x y s l = eqb (length l % 4) 0 && derives o k set ws (lines_o
 
 -- Number 0: yes or no to the list.
 abbrev pub lines_done : ℕ → ℕ → ℕ → List ℕ → ℕ → ℕ → ℕ → List ℕ → Verdict
-lines_done o k set ws x y sign l = cond (accepts o k set ws x y (sign_at sign) l) Holds Fails
+lines_done o k set ws x y sign l = Ok (accepts o k set ws x y (sign_at sign) l)
 
 -- Whether the list is a derivation of x → y (sign 0) or x ↛ y (sign 1) whose links are words that the set of origins chooses.
 abbrev pub lines_verdict : ℕ → ℕ → List ℕ → ℕ → ℕ → ℕ → ℕ → List ℕ → Verdict

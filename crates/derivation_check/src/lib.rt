@@ -13,15 +13,7 @@ ghost use Rattle.reason_check.specs.Table.{check_clauses};
 ghost use Rattle.net.specs.Clauses.{call};
 
 use derivation_check_line::{ground_holds, is_above};
-use net::{Checked, Refusal, check_net, is_bad_statement};
-use reason_check::Verdict;
-
-// A number as a place of a list.
-fn wide(x: u32) -> usize
-    ensures { result ≡ x }
-{
-    x as usize
-}
+use net::{Refusal, check_net, is_bad_statement};
 
 // Whether line `n` follows from those above it.
 fn line_holds(o: u32, k: u32, words: &[u32], set: u32, list: &[u32], n: usize) -> bool
@@ -30,8 +22,8 @@ fn line_holds(o: u32, k: u32, words: &[u32], set: u32, list: &[u32], n: usize) -
     ensures { result ≡ follows o k set words.now (lines_of list.now) n (get_or (lines_of list.now) n blank) }
 {
     let at = 4 * n;
-    let i = wide(list[at + 2]);
-    let j = wide(list[at + 3]);
+    let i = list[at + 2] as usize;
+    let j = list[at + 3] as usize;
     ground_holds(o, k, words, set, list, n, list[at], list[at + 1], i, j)
 }
 
@@ -40,13 +32,10 @@ fn lines_hold(o: u32, k: u32, words: &[u32], set: u32, list: &[u32]) -> bool
     requires { KnownWords words.now }
     ensures { result ≡ checks o k set words.now (lines_of list.now) }
 {
-    let count = list.len() / 4;
-    let mut n = 0;
-    while n < count {
+    for n in 0..list.len() / 4 {
         if !line_holds(o, k, words, set, list, n) {
             return false;
         }
-        n += 1;
     }
     true
 }
@@ -73,7 +62,7 @@ fn is_derivation(
     if count == 0 {
         return false;
     }
-    if !is_above(list, count, count - 1, wide(x), wide(y), sign) {
+    if !is_above(list, count, count - 1, x as usize, y as usize, sign) {
         return false;
     }
     lines_hold(o, k, words, set, list)
@@ -90,17 +79,14 @@ fn check_lines(
     y: u32,
     sign: u32,
     list: &[u32],
-) -> Verdict
+) -> Result<bool, Refusal>
     requires { NetFrom o k words.now }
     ensures { result ≡ call (check_clauses o x y sign n) (lines_done o k set words.now x y sign list.now) }
 {
     if is_bad_statement(o, n, x, y, sign) {
-        return Verdict::Refused(Refusal::BadQuestion);
+        return Err(Refusal::BadQuestion);
     }
-    if is_derivation(o, k, words, set, x, y, sign, list) {
-        return Verdict::Holds;
-    }
-    Verdict::Fails
+    Ok(is_derivation(o, k, words, set, x, y, sign, list))
 }
 
 // Whether `list` is a derivation of x → y (`sign` 0) or x ↛ y (`sign` 1) whose links are words that the set of origins chooses.
@@ -113,12 +99,9 @@ pub fn check_derivation(
     y: u32,
     sign: u32,
     list: &[u32],
-) -> Verdict
+) -> Result<bool, Refusal>
     ensures { result ≡ lines_verdict o k words.now set x y sign list.now }
 {
-    let net = check_net(o, k, words, set);
-    match net {
-        Checked::Refused(refusal) => Verdict::Refused(refusal),
-        Checked::Nodes(n) => check_lines(o, k, n, words, set, x, y, sign, list),
-    }
+    let n = check_net(o, k, words, set)?;
+    check_lines(o, k, n, words, set, x, y, sign, list)
 }

@@ -99,7 +99,8 @@ fn is_link(words: &[u32], set: u32, i: usize, word: u32) -> bool
     chosen & (plain == word)
 }
 
-// Whether line `n`, which says `word`, follows by its rule and the two numbers after it. A number that the rule does not use has to be 0.
+// Whether line `n`, which says `word`, follows by its rule and the two numbers after it. A number that the rule does not use has to be 0. The rule is
+// the number that stands in the line, as `ground_at` reads it: any number may stand there.
 pub fn ground_holds(
     o: u32,
     k: u32,

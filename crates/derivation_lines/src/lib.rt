@@ -1,4 +1,4 @@
-// The numbers by which the parts of a line are written.
+// The numbers by which the parts of a line are written. They are no enums: a lent list of lines holds them, and `ground_at` and `sign_at` read any number there.
 #![tactic(auto)]
 
 // The signs: x → y and x ↛ y.

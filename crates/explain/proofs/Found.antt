@@ -1,4 +1,8 @@
 -- What a reason that is found leaves: a list of its shape, over a net that passed the check.
+use Rattle.explain.specs.declared.ExplainError.TheVariants as explaining-answers
+use Rattle.reason.specs.declared.ReasonError.{ReasonError}
+use Rattle.reason.specs.declared.ReasonError.TheVariants.{Refused, Short, Unsupported}
+use Rattle.std.specs.Prelude.{Err, Ok}
 use Prim.Native.Nat.{ℕ, suc, ◌+◌, ◌*◌, ◌≤◌, ◌<◌}
 use mathlib.Core.Path.{◌≡◌, refl, sym, ap, ◌∙◌}
 use mathlib.Core.Bool.{Bool, true, false, cond, ◌||◌}
@@ -17,25 +21,19 @@ use Rattle.theory.proofs.reason.Distances.{distances_right}
 use Rattle.theory.proofs.reason.Reason.{reason_length}
 use Rattle.theory.proofs.origins.Statements.{chosen_net}
 use Rattle.net.specs.Clauses.{Clause, clause, call}
-use Rattle.net.specs.Table.{net_clauses, check_net, bad_statement}
+use Rattle.net.specs.Table.{net_clauses, check_net, bad_statement, Checked}
 use Rattle.net.specs.Good.{GoodStatement}
 use Rattle.net.specs.declared.Refusal.{Refusal}
 use Rattle.net.specs.declared.Refusal.TheVariants.{BadQuestion, ShortBuffer}
-use Rattle.net.specs.declared.Checked.{Checked}
-use Rattle.net.specs.declared.Checked.TheVariants as checked
 use Rattle.net.proofs.NetCheck.{nodes_exactly}
 use Rattle.net.proofs.OnNet.{passed_on, gone_on}
 use Rattle.net.proofs.Good.{good_statement, good_kind}
-use Rattle.reason.specs.Table.{ReasonOutcome, reason_outcome, filled, reason_of, reason_clauses, reason_done, reason_table, reasoned}
-use Rattle.reason.specs.declared.Reasoned.{Reasoned}
-use Rattle.reason.specs.declared.Reasoned.TheVariants.{Done, Unsupported, Short, Refused}
+use Rattle.reason.specs.Table.{ReasonOutcome, reason_outcome, filled, reason_of, reason_clauses, reason_done, reason_table, reasoned, Reasoned}
 use Rattle.derivation_lines.specs.Flat.{flat, derive_list}
 use Rattle.derivation_lines.proofs.Known.{net_known}
 use Rattle.explain.specs.Shape.{Shaped}
-use Rattle.explain.specs.Table.{ExplainOutcome, explain_outcome, explaining, no_room, roomless, support_clauses, explained}
-use Rattle.explain.specs.Found.{write_lines, explained_by}
-use Rattle.explain.specs.declared.Explained.{Explained}
-use Rattle.explain.specs.declared.Explained.TheVariants as explaining-answers
+use Rattle.explain.specs.Table.{ExplainOutcome, explain_outcome, explaining, no_room, roomless, support_clauses, explained, Explained}
+use Rattle.explain.specs.Found.{write_lines, without_reason, explained_by}
 
 firsts_most : (n : ℕ) (p : List ℕ) → firsts n p ≤ length p
 unfolding firsts
@@ -54,19 +52,19 @@ record Through (bad short away small : Bool) (size : ℕ) (all m m' : List ℕ) 
   pub list_is : m' ≡ all ++ drop (length all) m
 
 through : (bad short away small : Bool) (size : ℕ) (all d d₂ d' m m' : List ℕ)
-    → reason_outcome (Done size) d' m'
-    ≡ cond bad (reason_outcome (Refused BadQuestion) d m)
-    (cond short (reason_outcome (Refused ShortBuffer) d m)
-    (cond away (reason_outcome Unsupported d₂ m)
-    (cond small (reason_outcome (Short (length all)) d₂ m)
-    (reason_outcome (Done (length all)) d₂ (all ++ drop (length all) m)))))
+    → reason_outcome (Ok size) d' m'
+    ≡ cond bad (reason_outcome (Err (Refused BadQuestion)) d m)
+    (cond short (reason_outcome (Err (Refused ShortBuffer)) d m)
+    (cond away (reason_outcome (Err Unsupported) d₂ m)
+    (cond small (reason_outcome (Err (Short (length all))) d₂ m)
+    (reason_outcome (Ok (length all)) d₂ (all ++ drop (length all) m)))))
     → Through bad short away small size all m m'
-through true short away small size all d d₂ d' m m' e = let f : Done size ≡ Refused BadQuestion = ap (λ (r : ReasonOutcome). r.answer) e in let z : ◌≡◌ {A = ℕ} 0 1 = cc in absurd (omega arith)
-through false true away small size all d d₂ d' m m' e = let f : Done size ≡ Refused ShortBuffer = ap (λ (r : ReasonOutcome). r.answer) e in let z : ◌≡◌ {A = ℕ} 0 1 = cc in absurd (omega arith)
-through false false true small size all d d₂ d' m m' e = let f : Done size ≡ Unsupported = ap (λ (r : ReasonOutcome). r.answer) e in let z : ◌≡◌ {A = ℕ} 0 1 = cc in absurd (omega arith)
-through false false false true size all d d₂ d' m m' e = let f : Done size ≡ Short (length all) = ap (λ (r : ReasonOutcome). r.answer) e in let z : ◌≡◌ {A = ℕ} 0 1 = cc in absurd (omega arith)
+through true short away small size all d d₂ d' m m' e = let f : Ok size ≡ Err (Refused BadQuestion) = ap (λ (r : ReasonOutcome). r.answer) e in let z : ◌≡◌ {A = ℕ} 0 1 = cc in absurd (omega arith)
+through false true away small size all d d₂ d' m m' e = let f : Ok size ≡ Err (Refused ShortBuffer) = ap (λ (r : ReasonOutcome). r.answer) e in let z : ◌≡◌ {A = ℕ} 0 1 = cc in absurd (omega arith)
+through false false true small size all d d₂ d' m m' e = let f : Ok size ≡ Err Unsupported = ap (λ (r : ReasonOutcome). r.answer) e in let z : ◌≡◌ {A = ℕ} 0 1 = cc in absurd (omega arith)
+through false false false true size all d d₂ d' m m' e = let f : Ok size ≡ Err (Short (length all)) = ap (λ (r : ReasonOutcome). r.answer) e in let z : ◌≡◌ {A = ℕ} 0 1 = cc in absurd (omega arith)
 through false false false false size all d d₂ d' m m' e =
-    let f : Done size ≡ Done (length all) = ap (λ (r : ReasonOutcome). r.answer) e in
+    let f : Ok size ≡ Ok (length all) = ap (λ (r : ReasonOutcome). r.answer) e in
     record { asked = refl; far = refl; size_is = cc; list_is = ap (λ (r : ReasonOutcome). r.list) e }
 
 near : (E : ℕ → ℕ → Type 0) (t s d : ℕ) → Distance E t s d → (d ≡ never → ⊥) → d < never
@@ -89,10 +87,10 @@ pub record Found (o k : ℕ) (ws : List ℕ) (set x y sign size : ℕ) (m : List
 
 module _ (o k : ℕ) (ws : List ℕ) (set x y sign : ℕ) (d m : List ℕ) (size : ℕ) (d' m' : List ℕ) where
   abbrev refused : Refusal → ReasonOutcome
-  refused r = reason_outcome (Refused r) d m
+  refused r = reason_outcome (Err (Refused r)) d m
 
   on_net : set ≤ set_limit → NetFrom o k ws
-      → reason_outcome (Done size) d' m' ≡ call (reason_clauses o (chosen set ws) x y sign d m (o + k)) (reason_done (chosen set ws) x y sign d m (o + k))
+      → reason_outcome (Ok size) d' m' ≡ call (reason_clauses o (chosen set ws) x y sign d m (o + k)) (reason_done (chosen set ws) x y sign d m (o + k))
       → Found o k ws set x y sign size m'
   on_net low net e =
       let n = o + k in
@@ -114,16 +112,16 @@ module _ (o k : ℕ) (ws : List ℕ) (set x y sign : ℕ) (d m : List ℕ) (size
       }
 
   -- A done reason is found.
-  pub done_found : reason_outcome (Done size) d' m' ≡ reasoned o k ws set x y sign d m → Found o k ws set x y sign size m'
+  pub done_found : reason_outcome (Ok size) d' m' ≡ reasoned o k ws set x y sign d m → Found o k ws set x y sign size m'
   done_found e = at (check_net o k ws set) refl
     where
       at : (c : Checked) → check_net o k ws set ≡ c → Found o k ws set x y sign size m'
-      at (checked.Nodes n) f =
+      at (Ok n) f =
           let g = (nodes_exactly o k ws set n).0 f in
           on_net g.1 g.2
           (e ∙ sym (gone_on refused o k ws set (reason_clauses o (chosen set ws) x y sign d m) (reason_done (chosen set ws) x y sign d m) ((nodes_exactly o k ws set (o + k)).1 (refl, g.1, g.2)) refl))
-      at (checked.Refused q) f =
-          let g : Done size ≡ Refused q =
+      at (Err q) f =
+          let g : Ok size ≡ Err (Refused q) =
           ap (λ (r : ReasonOutcome). r.answer) (e ∙ sym (passed_on refused o k ws set (reason_clauses o (chosen set ws) x y sign d m) (reason_done (chosen set ws) x y sign d m) f)) in
           let z : ◌≡◌ {A = ℕ} 0 1 = cc in
           absurd (omega arith)
@@ -173,9 +171,9 @@ module _ (o k : ℕ) (ws : List ℕ) (set x y sign : ℕ) (d m l : List ℕ) whe
   abbrev by : ReasonOutcome → ExplainOutcome
   by r = explained_by o set ws r.answer r.scratch r.list l
 
-  last_clauses : cond (ltb (length m) (length all)) (explain_outcome (explaining-answers.ShortReason (length all)) past m l) (explained_by o set ws (Done (length all)) past (over all m) l)
+  last_clauses : cond (ltb (length m) (length all)) (explain_outcome (Err (explaining-answers.ShortReason (length all))) past m l) (explained_by o set ws (Ok (length all)) past (over all m) l)
       ≡ cond (no_room all (explaining o ws set x y sign n) m l) (roomless all (explaining o ws set x y sign n) past m l)
-      (explain_outcome (explaining-answers.Done (4 * length (explaining o ws set x y sign n)) (length all)) past (over all m) (over (flat (explaining o ws set x y sign n)) l))
+      (explain_outcome (Ok (4 * length (explaining o ws set x y sign n), length all)) past (over all m) (over (flat (explaining o ws set x y sign n)) l))
   unfolding explained_by
   last_clauses =
       rw (take-append_seam all (drop (length all) m))
@@ -188,34 +186,25 @@ module _ (o k : ℕ) (ws : List ℕ) (set x y sign : ℕ) (d m l : List ℕ) whe
       call_worked by (reason_table o k ws set x y sign d m) (reason_done (chosen set ws) x y sign d m n)
       ∙ ap
       (λ (z : ExplainOutcome). call
-      (net_clauses (λ r. explain_outcome (explaining-answers.Refused r) d m l) o k ws set (support_clauses o (chosen set ws) x y sign d m l n [])) z)
+      (net_clauses (λ r. explain_outcome (Err (explaining-answers.Refused r)) d m l) o k ws set (support_clauses o (chosen set ws) x y sign d m l n [])) z)
       last_clauses
 
 -- The outcome by what the reason answered, in the terms of the code.
-module _ (o k : ℕ) (ws : List ℕ) (set x y sign : ℕ) (d m l : List ℕ) {r : Reasoned} {d' m' : List ℕ} (found : reason_outcome r d' m' ≡ reasoned o k ws set x y sign d m) where
+module _ (o k : ℕ) (ws : List ℕ) (set x y sign : ℕ) (d m l : List ℕ) {d' m' : List ℕ} where
   -- Whatever it answered.
-  by_answer : {a : Reasoned} → r ≡ a → {e : ExplainOutcome} → e ≡ explained_by o set ws a d' m' l → e ≡ explained o k ws set x y sign d m l
-  by_answer {a} f {e} g =
-      let h : e ≡ explained_by o set ws r d' m' l = rw f g in
-      h ∙ ap (λ (q : ReasonOutcome). explained_by o set ws q.answer q.scratch q.list l) found ∙ explained_by_lem o k ws set x y sign d m l
-
-  pub found_shaped : {size : ℕ} → r ≡ Done size → Shaped ws size m'
-  found_shaped {size} f = found_shape o k ws set x y sign size m' (done_found o k ws set x y sign d m size d' m' (rw f at found))
+  by_answer : {a : Reasoned} → reason_outcome a d' m' ≡ reasoned o k ws set x y sign d m → {e : ExplainOutcome} → e ≡ explained_by o set ws a d' m' l → e ≡ explained o k ws set x y sign d m l
+  by_answer f g = g ∙ ap (λ (q : ReasonOutcome). explained_by o set ws q.answer q.scratch q.list l) f ∙ explained_by_lem o k ws set x y sign d m l
 
   -- It is done, and the lines are written or not; or it is not done.
-  pub by_done : {size : ℕ} → r ≡ Done size → {e : Explained} {out : List ℕ} → ((p q : List ℕ) → explain_outcome e p q out ≡ write_lines (derive_list o set ws (take size m')) size p q l)
-      → explain_outcome e d' m' out ≡ explained o k ws set x y sign d m l
-  unfolding explained_by
-  by_done f g = by_answer f (g d' m')
+  module _ {size : ℕ} (found : reason_outcome (Ok size) d' m' ≡ reasoned o k ws set x y sign d m) where
+    pub found_shaped : Shaped ws size m'
+    found_shaped = found_shape o k ws set x y sign size m' (done_found o k ws set x y sign d m size d' m' found)
 
-  pub by_unsupported : r ≡ Unsupported → explain_outcome explaining-answers.Unsupported d' m' l ≡ explained o k ws set x y sign d m l
-  unfolding explained_by
-  by_unsupported f = by_answer f refl
+    pub by_done : {e : Explained} {out : List ℕ} → ((p q : List ℕ) → explain_outcome e p q out ≡ write_lines (derive_list o set ws (take size m')) size p q l)
+        → explain_outcome e d' m' out ≡ explained o k ws set x y sign d m l
+    unfolding explained_by
+    by_done g = by_answer found (g d' m')
 
-  pub by_short : {needed : ℕ} → r ≡ Short needed → explain_outcome (explaining-answers.ShortReason needed) d' m' l ≡ explained o k ws set x y sign d m l
+  pub by_error : {e : ReasonError} → reason_outcome (Err e) d' m' ≡ reasoned o k ws set x y sign d m → explain_outcome (Err (without_reason e)) d' m' l ≡ explained o k ws set x y sign d m l
   unfolding explained_by
-  by_short f = by_answer f refl
-
-  pub by_refused : {q : Refusal} → r ≡ Refused q → explain_outcome (explaining-answers.Refused q) d' m' l ≡ explained o k ws set x y sign d m l
-  unfolding explained_by
-  by_refused f = by_answer f refl
+  by_error f = by_answer f refl

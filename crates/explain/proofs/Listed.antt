@@ -1,4 +1,6 @@
 -- The two parts of a reason as it is written, and its lines in front of a list.
+use Rattle.explain.specs.declared.ExplainError.TheVariants.{ShortLines}
+use Rattle.std.specs.Prelude.{Err, Ok}
 use Prim.Native.Nat.{ℕ, suc, ◌+◌, ◌-◌, ◌*◌, ◌<◌, ◌≤◌}
 use mathlib.Core.Path.{◌≡◌, sym, ap, ◌∙◌}
 use mathlib.Core.List.{List, ◌∷◌}
@@ -15,7 +17,6 @@ use Rattle.derivation_lines.proofs.Flatness.{flat_length}
 use Rattle.explain_line.specs.Blocks.{put_lines}
 use Rattle.explain.specs.Table.{explain_outcome}
 use Rattle.explain.specs.Found.{write_lines}
-use Rattle.explain.specs.declared.Explained.TheVariants.{Done, ShortLines}
 
 -- Lines from line 0 on stand in front of a list that has room for them.
 put_over : (l : List ℕ) (ls : List Line) → 4 * length ls ≤ length l → put_lines l 0 ls ≡ over (flat ls) l
@@ -59,7 +60,7 @@ module _ (o set : ℕ) (ws r : List ℕ) (long : 3 ≤ length r) (some : 1 ≤ g
         omega (arith, count, derive_size set ws o (get_or part 0 0) (drop 1 part) second, derive_short set ws o (get_or part 0 0) (drop 1 part) second, length-drop 1 part, part_length, second_length)
 
     -- Number 8.
-    pub lines_short : (l : List ℕ) → length l < 4 * n → (d m : List ℕ) → explain_outcome (ShortLines (4 * n)) d m l ≡ write_lines (derive_list o set ws r) (length r) d m l
+    pub lines_short : (l : List ℕ) → length l < 4 * n → (d m : List ℕ) → explain_outcome (Err (ShortLines (4 * n))) d m l ≡ write_lines (derive_list o set ws r) (length r) d m l
     lines_short l h d m = rw (← lines_count, lt-ltb (length l) (4 * n) h)
 
     module _ (l : List ℕ) (room : 4 * n ≤ length l) where
@@ -67,7 +68,7 @@ module _ (o set : ℕ) (ws r : List ℕ) (long : 3 ≤ length r) (some : 1 ≤ g
       lines_room_lem = omega (arith, count, derive_size set ws o (get_or part 0 0) (drop 1 part) second)
 
       -- Number 0.
-      pub lines_done_lem : {out : List ℕ} → out ≡ put_lines l 0 (derive o set ws (get_or part 0 0) (drop 1 part) second) → (d m : List ℕ) → explain_outcome (Done (4 * n) (length r)) d m out ≡ write_lines (derive_list o set ws r) (length r) d m l
+      pub lines_done_lem : {out : List ℕ} → out ≡ put_lines l 0 (derive o set ws (get_or part 0 0) (drop 1 part) second) → (d m : List ℕ) → explain_outcome (Ok (4 * n, length r)) d m out ≡ write_lines (derive_list o set ws r) (length r) d m l
       lines_done_lem {out} e d m =
           let f : out ≡ over (flat (derive_list o set ws r)) l = e ∙ ap (put_lines l 0) lines_same ∙ put_over l (derive_list o set ws r) (omega (arith, lines_count)) in
           rw (← lines_count, le-ltb (length l) (4 * n) room, f)

@@ -9,23 +9,34 @@ ghost use Rattle.explain_line.specs.Blocks.{part_limit, put_lines};
 ghost use Rattle.explain.specs.Shape.{Shaped};
 ghost use Rattle.explain.specs.Straight.{straight};
 ghost use Rattle.explain.specs.Table.{explain_outcome, explained};
-ghost use Rattle.explain.specs.Found.{write_lines};
+ghost use Rattle.explain.specs.Found.{without_reason, write_lines};
 
 use derivation_lines::IS_NOT;
 use explain_line::find_link;
 use explain_path::{write_rise, write_sink, write_swing};
 use net::Refusal;
-use reason::{Reasoned, find_reason};
+use reason::{ReasonError, find_reason};
 
-// What an explanation answers: the places written of lines and of the reason, that the statement is not supported (number 7), the places needed of
-// the reason or of lines (number 8), or a refusal.
-#[derive(Drop)]
-pub enum Explained {
-    Done(u32, u32),
+// Why there is no explanation: the statement is not supported (number 7), the list of the reason or that of lines is too short for the places needed,
+// which are told (number 8), or a refusal.
+#[derive(Clone, Copy)]
+pub enum ExplainError {
     Unsupported,
     ShortReason(u32),
     ShortLines(u32),
     Refused(Refusal),
+}
+
+impl From<ReasonError> for ExplainError {
+    ghost from_gives = { λ reason e. e ≡ without_reason reason };
+
+    fn from(reason: ReasonError) -> ExplainError {
+        match reason {
+            ReasonError::Unsupported => ExplainError::Unsupported,
+            ReasonError::Short(needed) => ExplainError::ShortReason(needed),
+            ReasonError::Refused(refusal) => ExplainError::Refused(refusal),
+        }
+    }
 }
 
 // How many lines a crossing takes.
@@ -89,7 +100,13 @@ fn write_parts(o: u32, words: &[u32], set: u32, part: &[u16], second: &[u16], li
 }
 
 // Numbers 8 and 0 for the lines of a reason as it is written.
-fn write_lines(o: u32, words: &[u32], set: u32, reason: &[u16], list: &mut [u32]) -> Explained
+fn write_lines(
+    o: u32,
+    words: &[u32],
+    set: u32,
+    reason: &[u16],
+    list: &mut [u32],
+) -> Result<(u32, u32), ExplainError>
     requires known { KnownWords words.now }
     requires shape { (3 ≤ length reason.now) × (length reason.now ≤ part_limit) × (1 ≤ get_or reason.now 0 0) × (get_or reason.now 0 0 + 2 ≤ length reason.now) }
     ensures { (d m : List ℕ) → explain_outcome result d m list.new ≡ write_lines (derive_list o set words.now reason.now) (length reason.now) d m list.old }
@@ -100,10 +117,10 @@ fn write_lines(o: u32, words: &[u32], set: u32, reason: &[u16], list: &mut [u32]
     let count = line_count(o, words, set, part, second);
     let places = 4 * count;
     if list.len() < places {
-        return Explained::ShortLines(places as u32);
+        return Err(ExplainError::ShortLines(places as u32));
     }
     write_parts(o, words, set, part, second, list);
-    Explained::Done(places as u32, reason.len() as u32)
+    Ok((places as u32, reason.len() as u32))
 }
 
 // The same of the reason that stands in the first `size` places.
@@ -114,7 +131,7 @@ fn write_found(
     size: u32,
     nodes: &[u16],
     list: &mut [u32],
-) -> Explained
+) -> Result<(u32, u32), ExplainError>
     requires { Shaped words.now size nodes.now }
     ensures { (d m : List ℕ) → explain_outcome result d m list.new ≡ write_lines (derive_list o set words.now (take size nodes.now)) size d m list.old }
 {
@@ -133,14 +150,9 @@ pub fn explain(
     scratch: &mut [u16],
     reason: &mut [u16],
     lines: &mut [u32],
-) -> Explained
+) -> Result<(u32, u32), ExplainError>
     ensures { explain_outcome result scratch.new reason.new lines.new ≡ explained o k words.now set x y sign scratch.old reason.old lines.old }
 {
-    let found = find_reason(o, k, words, set, x, y, sign, scratch, reason);
-    match found {
-        Reasoned::Done(size) => write_found(o, words, set, size, reason, lines),
-        Reasoned::Unsupported => Explained::Unsupported,
-        Reasoned::Short(needed) => Explained::ShortReason(needed),
-        Reasoned::Refused(refusal) => Explained::Refused(refusal),
-    }
+    let size = find_reason(o, k, words, set, x, y, sign, scratch, reason)?;
+    write_found(o, words, set, size, reason, lines)
 }

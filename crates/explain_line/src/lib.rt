@@ -13,7 +13,7 @@ ghost use Rattle.explain_line.specs.Blocks.{line_limit, way_at, step_lines, cros
 use derivation_lines::{IS, IS_NOT, LINK, RULE_2, RULE_3, RULE_4, RULE_5};
 use net_word::{head_of, is_chosen, plain_of, tail_of};
 
-// How a step is taken: up a first part, under an object, down to a kind.
+// How a step is taken: up a first part, under an object, down to a kind. Numbers and no enum: `write_steps` takes any number, and its clause names `way_at` of it.
 pub const UP: u32 = 0;
 
 pub const UNDER: u32 = 1;
@@ -32,21 +32,19 @@ fn word_says(word: u32, set: u32, x: u16, y: u16, sign: u32) -> bool
     chosen & (tail & (head & (plain % 2 == sign)))
 }
 
-// The index of the first chosen word that says so, or the number of words.
+// The index of the first chosen word that says so, or the number of words. An `Option` is no plainer: `put_link` writes the number without a test, as
+// `linked` does.
 pub fn find_link(words: &[u32], set: u32, x: u16, y: u16, sign: u32) -> usize
     requires { KnownWords words.now }
     ensures value { result ≡ place_of set x y sign words.now }
     ensures upper_bound { (result ≤ length words.now) × (result ≤ word_limit) }
 {
-    let mut i = 0;
-    while i < words.len() {
-        let word = words[i];
+    for (i, &word) in words.iter().enumerate() {
         if word_says(word, set, x, y, sign) {
             return i;
         }
-        i += 1;
     }
-    i
+    words.len()
 }
 
 // Line `n`: a statement, its rule and two numbers.
@@ -109,13 +107,17 @@ pub fn write_steps(
     requires number { (1 ≤ n) × (n + 2 * length nodes.now < line_limit) }
     ensures { list.new ≡ put_lines list.old n (step_lines (way_at way) set words.now x (get_or nodes.now 0 0) (drop 1 nodes.now) n) }
 {
-    let last = nodes.len() - 1;
-    let mut at = n;
-    let mut i: usize = 0;
-    while i < last {
-        put_step(way, words, set, list, at, x, nodes[i], nodes[i + 1]);
-        at += 2;
-        i += 1;
+    for i in 0..nodes.len() - 1 {
+        put_step(
+            way,
+            words,
+            set,
+            list,
+            n + 2 * i as u32,
+            x,
+            nodes[i],
+            nodes[i + 1],
+        );
     }
 }
 

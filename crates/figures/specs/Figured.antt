@@ -1,9 +1,8 @@
 -- What a net gives ([11]): its figures, or the number of its refusal.
-use Rattle.std.specs.Prelude.{ℕ, Bool, cond, List, replicate}
+use Rattle.std.specs.Prelude.{ℕ, Bool, cond, List, replicate, Err, Ok}
 use Rattle.theory.specs.Origins.{chosen}
 use Rattle.net.specs.Table.{refusal_reply, check_net, check_plain}
-use Rattle.net.specs.declared.Checked.{Checked}
-use Rattle.net.specs.declared.Checked.TheVariants as checked
+use Rattle.net.specs.Table.{Checked}
 use Rattle.question.specs.declared.Answer.{Answer}
 use Rattle.question.specs.declared.Answer.TheVariants.{None, Yes, No, Both}
 use Rattle.figures_counts.specs.Counting.{figures}
@@ -22,8 +21,8 @@ refused n = record { number = n; counts = nothing }
 
 -- By what the check of a net gave: the figures of the words that the set chooses, or the refusal's number.
 unfoldable pub figured_by : ℕ → ℕ → List ℕ → ℕ → Checked → Figured
-figured_by o k ws set (checked.Nodes n) = done (figures o k (chosen set ws))
-figured_by o k ws set (checked.Refused r) = refused (refusal_reply r).number
+figured_by o k ws set (Ok n) = done (figures o k (chosen set ws))
+figured_by o k ws set (Err r) = refused (refusal_reply r).number
 
 -- A net whose words have origins, read with a set of them: numbers 1, 2, 15 and 3, or 0.
 abbrev pub figured_net : ℕ → ℕ → List ℕ → ℕ → Figured

@@ -1,18 +1,18 @@
 // The figures of a net ([11]), or the number of its refusal.
 #![tactic(auto)]
 
-ghost use Rattle.std.specs.Prelude.{◌≡◌, ℕ, ◌+◌};
+ghost use Rattle.std.specs.Prelude.{◌≡◌, ℕ, ◌+◌, Ok};
 ghost use Rattle.theory.specs.Origins.{chosen, NetFrom};
 ghost use Rattle.net.specs.Table.{check_net};
-ghost use Rattle.net.specs.declared.Checked.TheVariants.{Nodes};
 ghost use Rattle.figures_counts.specs.Counting.{figures};
 ghost use Rattle.figures.specs.Figured.{figured_by, figured_net, figured_plain};
 
 use figures_rows::count_figures;
-use net::{Checked, check_net, check_plain, refusal_given};
+use net::{Refusal, check_net, check_plain, refusal_given};
 use rows_filling::fill_rows;
 
 // Number 0 and the eight figures, or the number of a refusal and zeros: so a refused net adds nothing.
+// The number stays beside the figures: `sums_of` and `fleet_from`, which say what a sheet adds, read the figures of a refused file too.
 #[derive(Drop)]
 pub struct Figured {
     pub number: u32,
@@ -33,19 +33,16 @@ fn count_checked(o: u32, k: u32, n: usize, words: &[u32], set: u32) -> [u64; 8]
 }
 
 // The same by what the check of a net gave.
-fn count_by(o: u32, k: u32, words: &[u32], set: u32, checked: Checked) -> Figured
-    requires { (n : ℕ) → checked ≡ Nodes n → check_net o k words.now set ≡ Nodes n }
+fn count_by(o: u32, k: u32, words: &[u32], set: u32, checked: Result<usize, Refusal>) -> Figured
+    requires { (n : ℕ) → checked ≡ Ok n → check_net o k words.now set ≡ Ok n }
     ensures { result ≡ figured_by o k words.now set checked }
 {
     match checked {
-        Checked::Nodes(n) => {
+        Ok(n) => {
             let counts = count_checked(o, k, n, words, set);
-            Figured {
-                number: 0,
-                counts: counts,
-            }
+            Figured { number: 0, counts }
         }
-        Checked::Refused(refusal) => {
+        Err(refusal) => {
             let reply = refusal_given(refusal);
             let none = [0u64; 8];
             Figured {

@@ -6,12 +6,12 @@ use mathlib.Core.List.{List, map}
 use native.Mathlib.Omega.{arith}
 use borrow.Author.Tests.{eq-eqb, ne_eqb}
 use lib.ListN.{length, get_or, length-take, length-drop, get_or-map}
+use Rattle.std.specs.Prelude.{Ok, Err}
 use Rattle.netfile_numbers.specs.Bytes.{u32_at}
 use Rattle.netfile_entry.specs.Entries.{entries, contents_size}
-use Rattle.netfile.specs.Contents.{file_limit, contents_of, stretch, cut, bodies_of}
+use Rattle.netfile.specs.declared.Malformed.{Malformed}
+use Rattle.netfile.specs.Contents.{file_limit, contents_of, stretch, cut, bodies_of, Contents, malformed_at}
 use Rattle.netfile.specs.Places.{words_start, SetStands}
-use Rattle.netfile.specs.declared.Contents.{Contents}
-use Rattle.netfile.specs.declared.Contents.TheVariants.{Bodies, Malformed}
 use Rattle.netfile.proofs.Places.{says_place}
 use Rattle.netfile.proofs.Stretches.{stretches}
 use Rattle.ask_text.specs.Text.{words_of}
@@ -28,12 +28,12 @@ module _ (nodes words origins : List ℕ) {r : Figured} {o k : ℕ} {ws : List �
   chosen_joined h d q = q ∙ rw (e, f, g, d, ne_eqb (length origins) 0 h)
 
 -- The figures of a file whose questions start at q and whose set starts at d, and of a malformed one.
-pub file_bodies : (s : List ℕ) (q d : ℕ) → contents_of s ≡ Bodies q d
+pub file_bodies : (s : List ℕ) (q d : ℕ) → contents_of s ≡ Ok (q, d)
     → figured_file s ≡ figured_bodies (stretch s (contents_size (entries s)) (words_start (entries s) s)) (stretch s (words_start (entries s) s) q) (stretch s d (length s))
 unfolding figured_file
 file_bodies s q d e = (stretches s q d e).says _ _ _
 
-pub file_malformed : (s : List ℕ) (place : ℕ) → contents_of s ≡ Malformed place → figured_file s ≡ refused 9
+pub file_malformed : (s : List ℕ) (place : ℕ) → contents_of s ≡ Err (malformed_at place) → figured_file s ≡ refused 9
 unfolding figured_file
 file_malformed s place e = says_place s place e _ _ _
 
@@ -45,9 +45,10 @@ pub record Handed (s nodes words origins : List ℕ) : Type 0 where
   pub set_room : (length origins ≡ 0 → ⊥) → 4 ≤ length origins
 
 module _ (s : List ℕ) {c : Contents} (e : c ≡ contents_of s) where
-  pub handed : {A : Type 0} (now : A → List ℕ) (r : List A) (z : A) {q d : ℕ} → c ≡ Bodies q d → map now r ≡ bodies_of s
+  pub handed : {A : Type 0} (now : A → List ℕ) (r : List A) (z : A) {p : ℕ × ℕ} → c ≡ Ok p → map now r ≡ bodies_of s
       → Handed s (now (get_or r 0 z)) (now (get_or r 1 z)) (now (get_or r 3 z))
-  handed now r z {q} {d} f g =
+  handed now r z {p} f g =
+      let (q, d) = p in
       let t = stretches s q d (sym e ∙ f) in
       let h : map now r ≡ cut s (contents_size (entries s)) (words_start (entries s) s) (words_start (entries s) s) q q d d (length s) = g ∙ t.says _ _ _ in
       let body : (i : ℕ) → now (get_or r i z) ≡ get_or (cut s (contents_size (entries s)) (words_start (entries s) s) (words_start (entries s) s) q q d d (length s)) i (now z) =
@@ -62,10 +63,10 @@ module _ (s : List ℕ) {c : Contents} (e : c ≡ contents_of s) where
         set_room = rw n3 (last t.set);
       }
     where
-      last : SetStands s d → (length (stretch s d (length s)) ≡ 0 → ⊥) → 4 ≤ length (stretch s d (length s))
+      last : SetStands s p.1 → (length (stretch s p.1 (length s)) ≡ 0 → ⊥) → 4 ≤ length (stretch s p.1 (length s))
       last (inl h) n = absurd (n (simp (length-take, length-drop) (omega (arith, h.1))))
       last (inr h) n = simp (length-take, length-drop) (omega (arith, h.1))
 
   -- What is given for a malformed one.
-  pub refused_malformed : {place : ℕ} → c ≡ Malformed place → refused 9 ≡ figured_file s
-  refused_malformed {place} f = sym (file_malformed s place (sym e ∙ f))
+  pub refused_malformed : {m : Malformed} → c ≡ Err m → refused 9 ≡ figured_file s
+  refused_malformed {m} f = sym (file_malformed s m.place (sym e ∙ f))

@@ -6,7 +6,7 @@ ghost use Rattle.netfile.specs.Contents.{file_limit};
 ghost use Rattle.figures_file.specs.Files.{figured_bodies, figured_file};
 
 use figures::{Figured, count_net, count_plain};
-use netfile::{Contents, read_bodies, read_contents};
+use netfile::{read_bodies, read_contents};
 use netfile_numbers::{read_words, u32_at};
 
 // The figures by the bodies of a file; without a set its words are plain.
@@ -32,18 +32,14 @@ fn count_bodies(nodes: &[u8], links: &[u8], origins: &[u8]) -> Figured
 pub fn count_file(file: &[u8]) -> Figured
     ensures { result ≡ figured_file file.now }
 {
-    let contents = read_contents(file);
-    match contents {
-        Contents::Bodies(_, _) => {
+    match read_contents(file) {
+        Ok(_) => {
             let bodies = read_bodies(file);
             count_bodies(bodies[0], bodies[1], bodies[3])
         }
-        Contents::Malformed(_) => {
-            let none = [0u64; 8];
-            Figured {
-                number: 9,
-                counts: none,
-            }
-        }
+        Err(_) => Figured {
+            number: 9,
+            counts: [0; 8],
+        },
     }
 }

@@ -10,10 +10,8 @@ fn ones_in_common(a: usize, e: usize, rows: &[u64], others: &[u64]) -> u64
     ensures { (result ≡ ones_both a (e - a) rows.now others.now) × (result ≤ 1048576) }
 {
     let mut size: u64 = 0;
-    let mut i = a;
-    while i < e {
-        size += u64::count_ones(rows[i] & others[i]) as u64;
-        i += 1;
+    for i in a..e {
+        size += (rows[i] & others[i]).count_ones() as u64;
     }
     size
 }

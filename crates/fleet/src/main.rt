@@ -5,26 +5,12 @@ ghost use Rattle.std.specs.Prelude.{suc, ◌-◌, ◌≤◌, ◌≡◌, cond, le
 ghost use Rattle.fleet_text.specs.Sums.{Sums};
 
 use fleet_text::{Turn, file_size, take_turn};
+use full_read::read_full;
 use std::io;
 use std::io::{Read, Write};
 
 // At most so many files.
 const FILES_LIMIT: u32 = 65536;
-
-// Reads into the front of `buffer` until it is full or the input ends; a read that fails counts as the end. Gives how many bytes there were.
-fn read_full<R: Read>(reader: &mut R, buffer: &mut [u8]) -> usize
-    ensures { result ≤ length buffer.new }
-{
-    let mut done = 0;
-    while done < buffer.len() {
-        let read = reader.read(&mut buffer[done..]).unwrap_or(0);
-        if read == 0 {
-            break;
-        }
-        done += read;
-    }
-    done
-}
 
 // Reads so many bytes of the input into the front of `file`. Gives how many there were.
 fn read_sized<R: Read>(reader: &mut R, size: usize, file: &mut [u8]) -> usize
@@ -84,12 +70,12 @@ fn main(rt: HostRuntime) -> io::Result<()> {
     let mut left = FILES_LIMIT;
     let mut sums = [0u64; 8];
     let mut going = true;
+    // No `for`: a turn says whether another follows.
     while going {
         let next = read_turn(&mut reader, &mut writer, &mut printed, left, sums);
         going = next.going;
         left = next.left;
-        let more = next.sums;
-        sums = more;
+        sums = next.sums;
     }
     printed
 }

@@ -31,12 +31,9 @@ pub fn put_numbers(text: &mut [u8], numbers: &[u64]) -> usize
     ensures { Wrote (numbers_line numbers.now) text.old text.new result }
 {
     let mut at = 0;
-    let mut i = 0;
-    while i < numbers.len() {
+    for (i, &number) in numbers.iter().enumerate() {
         let after = after_number(i, numbers.len());
-        let put = put_wide(&mut text[at..], numbers[i], after);
-        at += put;
-        i += 1;
+        at += put_wide(&mut text[at..], number, after);
     }
     at
 }

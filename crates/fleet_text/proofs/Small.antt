@@ -8,18 +8,16 @@ use native.Mathlib.Nat.{mul-le-mul}
 use native.Mathlib.Decide.{dec_lt}
 use lib.Dec.{eqb}
 use lib.ListN.{length, get_or, get_or-eq_default}
+use Rattle.std.specs.Prelude.{Ok, Err}
 use Rattle.theory.specs.Nets.{Net}
 use Rattle.theory.specs.Origins.{chosen}
 use Rattle.net.specs.Table.{check_net, check_plain}
-use Rattle.net.specs.declared.Checked.{Checked}
-use Rattle.net.specs.declared.Checked.TheVariants as checked
+use Rattle.net.specs.Table.{Checked}
 use Rattle.net.proofs.NetCheck.{chosen_checked, plain_chosen}
 use Rattle.netfile_numbers.specs.Bytes.{u32_at}
 use Rattle.netfile_entry.specs.Entries.{entries, contents_size}
-use Rattle.netfile.specs.Contents.{contents_of, stretch}
+use Rattle.netfile.specs.Contents.{contents_of, stretch, Contents}
 use Rattle.netfile.specs.Places.{words_start}
-use Rattle.netfile.specs.declared.Contents.{Contents}
-use Rattle.netfile.specs.declared.Contents.TheVariants.{Bodies, Malformed}
 use Rattle.ask_text.specs.Text.{words_of}
 use Rattle.figures_counts.specs.Counting.{figures}
 use Rattle.figures_counts.proofs.Figures.{figures_right, objects_add, kinds_add}
@@ -72,10 +70,10 @@ net_small o k ws net = record { eight = long; few = few }
         at (suc (suc (suc (suc (suc (suc (suc (suc i)))))))) (no d) = rw (get_or-eq_default (figures o k ws) 0 {n = suc (suc (suc (suc (suc (suc (suc (suc i)))))))} (omega (arith, long))) (omega arith)
 
 -- By what the check of a net gave.
-by_small : (o k : ℕ) (ws : List ℕ) (set : ℕ) (c : Checked) → ((n : ℕ) → c ≡ checked.Nodes n → check_net o k ws set ≡ checked.Nodes n) → Small (figured_by o k ws set c).counts
+by_small : (o k : ℕ) (ws : List ℕ) (set : ℕ) (c : Checked) → ((n : ℕ) → c ≡ Ok n → check_net o k ws set ≡ Ok n) → Small (figured_by o k ws set c).counts
 unfolding figured_by
-by_small o k ws set (checked.Nodes n) f = net_small o k (chosen set ws) (chosen_checked o k ws set (f n refl)).2
-by_small o k ws set (checked.Refused r) f = none_small
+by_small o k ws set (Ok n) f = net_small o k (chosen set ws) (chosen_checked o k ws set (f n refl)).2
+by_small o k ws set (Err r) f = none_small
 
 bodies_small : (nodes words origins : List ℕ) → Small (figured_bodies nodes words origins).counts
 bodies_small nodes words origins = at (eqb (length origins) 0)
@@ -90,8 +88,8 @@ pub file_small : (s : List ℕ) → Small (figured_file s).counts
 file_small s = at (contents_of s) refl
   where
     at : (c : Contents) → contents_of s ≡ c → Small (figured_file s).counts
-    at (Bodies q d) e = rw (file_bodies s q d e) (bodies_small (stretch s (contents_size (entries s)) (words_start (entries s) s)) (stretch s (words_start (entries s) s) q) (stretch s d (length s)))
-    at (Malformed place) e = rw (file_malformed s place e) none_small
+    at (Ok (q, d)) e = rw (file_bodies s q d e) (bodies_small (stretch s (contents_size (entries s)) (words_start (entries s) s)) (stretch s (words_start (entries s) s) q) (stretch s d (length s)))
+    at (Err m) e = rw (file_malformed s m.place e) none_small
 
 -- ── in the terms of the code ──
 module _ (s : List ℕ) {r : Figured} (e : r ≡ figured_file s) where

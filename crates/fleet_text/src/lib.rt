@@ -88,20 +88,14 @@ fn put_line(text: &mut [u8], number: u32, counts: &[u64]) -> usize
 }
 
 // The sums with eight counts more.
-fn add_counts(sums: &[u64], counts: &[u64]) -> [u64; 8]
-    requires { Sums 65535 sums.now × Small counts.now }
-    ensures { result ≡ plus sums.now counts.now }
+fn add_counts(mut sums: [u64; 8], counts: &[u64]) -> [u64; 8]
+    requires { Sums 65535 sums × Small counts.now }
+    ensures { result ≡ plus sums counts.now }
 {
-    [
-        sums[0] + counts[0],
-        sums[1] + counts[1],
-        sums[2] + counts[2],
-        sums[3] + counts[3],
-        sums[4] + counts[4],
-        sums[5] + counts[5],
-        sums[6] + counts[6],
-        sums[7] + counts[7],
-    ]
+    for (i, &count) in counts.iter().enumerate() {
+        sums[i] += count;
+    }
+    sums
 }
 
 // The turn of a whole file: its line in front of the text, and what it adds.
@@ -112,15 +106,13 @@ fn take_file(left: u32, sums: [u64; 8], file: &[u8], text: &mut [u8]) -> Turn
     ensures state { (result.going ≡ true) × (result.left ≡ left - 1) × (result.sums ≡ plus sums (figured_file file.now).counts) }
 {
     let figured = count_file(file);
-    let number = figured.number;
-    let counts = figured.counts;
-    let size = put_line(text, number, &counts);
-    let next = add_counts(&sums, &counts);
+    let size = put_line(text, figured.number, &figured.counts);
+    let sums = add_counts(sums, &figured.counts);
     Turn {
-        size: size,
+        size,
         going: true,
         left: left - 1,
-        sums: next,
+        sums,
     }
 }
 
@@ -132,10 +124,10 @@ fn close_turn(left: u32, sums: [u64; 8], text: &mut [u8]) -> Turn
 {
     let size = put_total(text, &sums);
     Turn {
-        size: size,
+        size,
         going: false,
-        left: left,
-        sums: sums,
+        left,
+        sums,
     }
 }
 
@@ -147,10 +139,10 @@ fn refuse_turn(left: u32, sums: [u64; 8], text: &mut [u8]) -> Turn
 {
     let size = put_refused_end(text, &sums);
     Turn {
-        size: size,
+        size,
         going: false,
-        left: left,
-        sums: sums,
+        left,
+        sums,
     }
 }
 

@@ -1,4 +1,6 @@
 -- The reply of what each operation leaves, and that the values of the clash test and of both completions fit into 32 bits.
+use Rattle.completion.specs.declared.CompletionError.TheVariants as completed
+use Rattle.std.specs.Prelude.{Err}
 use Prim.Native.Nat.{ℕ, zero, suc, ◌+◌, ◌≤◌, ◌<◌}
 use mathlib.Core.Path.{refl}
 use mathlib.Core.Bool.{◌||◌}
@@ -19,9 +21,7 @@ use Rattle.scan.specs.Table.{ScanOutcome, scan_reply}
 use Rattle.question.specs.Table.{QuestionOutcome, asked_reply}
 use Rattle.questions.specs.Table.{QuestionsOutcome, asked_all_reply}
 use Rattle.clash.specs.Table.{ClashOutcome, clash_outcome, clash_nodes, first_both, first_clash, clash_search, nowhere, clash_clauses, clash_done, clashed_by, clashed_reply}
-use Rattle.clash.specs.declared.Clashed.TheVariants as clashed
 use Rattle.completion.specs.Table.{CompletionOutcome, completion_outcome, completion_clauses, completion_done, completed_by, completed_reply}
-use Rattle.completion.specs.declared.Completed.TheVariants as completed
 use Rattle.compact.specs.Table.{CompactionOutcome, compacted_reply}
 use Rattle.mend.specs.Table.{MendingOutcome, mended_reply}
 use Rattle.reason.specs.Table.{ReasonOutcome, reasoned_reply}
@@ -97,7 +97,7 @@ module _ (o k : ℕ) (ws : List ℕ) where
 
 pub clash_fits : (o k : ℕ) (ws : List ℕ) (set : ℕ) (m : List ℕ) → Fits (clashed_reply (clashed_by o k ws set m).answer)
 clash_fits o k ws set m =
-    table_fits o k ws set clash_gives (λ r. clash_outcome (clashed.Refused r) m) (clash_clauses (clash_search o k (chosen set ws)) m) (clash_done (clash_search o k (chosen set ws)) m) (λ r. refl)
+    table_fits o k ws set clash_gives (λ r. clash_outcome (Err r) m) (clash_clauses (clash_search o k (chosen set ws)) m) (clash_done (clash_search o k (chosen set ws)) m) (λ r. refl)
     (λ n e. clash_net_fits o k (chosen set ws) m n (chosen_checked o k ws set e).2)
 
 -- ── the completion ──
@@ -119,7 +119,7 @@ module _ (o k : ℕ) (ws m l : List ℕ) where
 
 pub completion_fits : (o k : ℕ) (ws : List ℕ) (set : ℕ) (m l : List ℕ) → Fits (completed_reply (completed_by o k ws set m l).answer)
 completion_fits o k ws set m l =
-    table_fits o k ws set completion_gives (λ r. completion_outcome (completed.Refused r) m l) (completion_clauses (complete o k (chosen set ws)) m l) (completion_done (complete o k (chosen set ws)) m l) (λ r. refl)
+    table_fits o k ws set completion_gives (λ r. completion_outcome (Err (completed.Refused r)) m l) (completion_clauses (complete o k (chosen set ws)) m l) (completion_done (complete o k (chosen set ws)) m l) (λ r. refl)
     (λ n e. completion_net_fits o k (chosen set ws) m l n (chosen_checked o k ws set e).2)
 
 -- ── the completion by rows ──
@@ -137,5 +137,5 @@ module _ (o k : ℕ) (ws yeses noes l : List ℕ) where
 
 pub rows_fits : (o k : ℕ) (ws : List ℕ) (set : ℕ) (yeses noes l : List ℕ) → Fits (completed_reply (completed_by_rows o k ws set yeses noes l).answer)
 rows_fits o k ws set yeses noes l =
-    table_fits o k ws set rows_gives (λ r. rows_outcome (completed.Refused r) yeses noes l) (rows_clauses o k (chosen set ws) yeses noes l) (rows_done o k (chosen set ws) yeses noes l) (λ r. refl)
+    table_fits o k ws set rows_gives (λ r. rows_outcome (Err (completed.Refused r)) yeses noes l) (rows_clauses o k (chosen set ws) yeses noes l) (rows_done o k (chosen set ws) yeses noes l) (λ r. refl)
     (λ n e. rows_net_fits o k (chosen set ws) yeses noes l n (chosen_checked o k ws set e).2)

@@ -22,202 +22,197 @@ ghost use Rattle.rows_answer.specs.Table.{answered_reply};
 ghost use Rattle.unit.specs.Table.{simulated_reply};
 ghost use Rattle.library_reply.specs.Fits.{Fits};
 
-use clash::Clashed;
-use compact::CompactedList;
-use completion::Completed;
-use explain::Explained;
-use mend::MendedNet;
-use net::{Reply, refusal_given, reply_of};
-use proof::Proved;
-use proof_check::Judged;
-use question::{Asked, answer_number};
-use questions::AskedAll;
-use reason::Reasoned;
-use reason_check::Verdict;
-use rows_answer::Answered;
-use satisfies::Tested;
-use scan::Scanned;
-use unit::Simulated;
-use valuation::Filled;
+use completion::CompletionError;
+use explain::ExplainError;
+use mend::MendError;
+use net::{Refusal, Reply, refusal_given, reply_of};
+use proof::ProofError;
+use proof_check::JudgeError;
+use question::{Answer, answer_number};
+use questions::PairsError;
+use reason::ReasonError;
+use satisfies::TestError;
+use scan::ScanError;
+use unit::UnitError;
+use valuation::ValuationError;
 
 // The reply of a scan.
-pub fn scanned_given(scanned: Scanned) -> Reply
+pub fn scanned_given(scanned: Result<u32, ScanError>) -> Reply
     ensures { result ≡ scan_reply scanned }
 {
     match scanned {
-        Scanned::Done(count) => reply_of(0, count, 0),
-        Scanned::Spent(count) => reply_of(6, count, 0),
-        Scanned::Refused(refusal) => refusal_given(refusal),
+        Ok(count) => reply_of(0, count, 0),
+        Err(ScanError::Spent(count)) => reply_of(6, count, 0),
+        Err(ScanError::Refused(refusal)) => refusal_given(refusal),
     }
 }
 
 // The reply of a question.
-pub fn asked_given(asked: Asked) -> Reply
+pub fn asked_given(asked: Result<(Answer, u32), Refusal>) -> Reply
     ensures { result ≡ asked_reply asked }
 {
     match asked {
-        Asked::Done(answer, count) => reply_of(0, answer_number(answer) as u32, count),
-        Asked::Refused(refusal) => refusal_given(refusal),
+        Ok((answer, count)) => reply_of(0, answer_number(answer) as u32, count),
+        Err(refusal) => refusal_given(refusal),
     }
 }
 
 // The reply of a screenful of questions.
-pub fn asked_all_given(asked: AskedAll) -> Reply
+pub fn asked_all_given(asked: Result<(), PairsError>) -> Reply
     ensures { result ≡ asked_all_reply asked }
 {
     match asked {
-        AskedAll::Done => reply_of(0, 0, 0),
-        AskedAll::BadPairs => reply_of(10, 0, 0),
-        AskedAll::Refused(refusal) => refusal_given(refusal),
+        Ok(()) => reply_of(0, 0, 0),
+        Err(PairsError::BadPairs) => reply_of(10, 0, 0),
+        Err(PairsError::Refused(refusal)) => refusal_given(refusal),
     }
 }
 
 // The reply of a clash test.
-pub fn clashed_given(clashed: Clashed) -> Reply
+pub fn clashed_given(clashed: Result<Option<(usize, usize)>, Refusal>) -> Reply
     requires { Fits (clashed_reply clashed) }
     ensures { result ≡ clashed_reply clashed }
 {
     match clashed {
-        Clashed::At(x, y) => reply_of(0, x as u32, y as u32),
-        Clashed::Nowhere => reply_of(7, 0, 0),
-        Clashed::Refused(refusal) => refusal_given(refusal),
+        Ok(Some((x, y))) => reply_of(0, x as u32, y as u32),
+        Ok(None) => reply_of(7, 0, 0),
+        Err(refusal) => refusal_given(refusal),
     }
 }
 
 // The reply of a completion.
-pub fn completed_given(completed: Completed) -> Reply
+pub fn completed_given(completed: Result<usize, CompletionError>) -> Reply
     requires { Fits (completed_reply completed) }
     ensures { result ≡ completed_reply completed }
 {
     match completed {
-        Completed::Done(size) => reply_of(0, size as u32, 0),
-        Completed::Short(needed) => reply_of(8, needed as u32, 0),
-        Completed::Refused(refusal) => refusal_given(refusal),
+        Ok(size) => reply_of(0, size as u32, 0),
+        Err(CompletionError::Short(needed)) => reply_of(8, needed as u32, 0),
+        Err(CompletionError::Refused(refusal)) => refusal_given(refusal),
     }
 }
 
 // The reply of a compaction.
-pub fn compacted_given(compacted: CompactedList) -> Reply
+pub fn compacted_given(compacted: Result<u32, Refusal>) -> Reply
     ensures { result ≡ compacted_reply compacted }
 {
     match compacted {
-        CompactedList::Done(size) => reply_of(0, size, 0),
-        CompactedList::Refused(refusal) => refusal_given(refusal),
+        Ok(size) => reply_of(0, size, 0),
+        Err(refusal) => refusal_given(refusal),
     }
 }
 
 // The reply of mending.
-pub fn mended_given(mended: MendedNet) -> Reply
+pub fn mended_given(mended: Result<(u32, u32), MendError>) -> Reply
     ensures { result ≡ mended_reply mended }
 {
     match mended {
-        MendedNet::Done(kept, dropped) => reply_of(0, kept, dropped),
-        MendedNet::Short(needed) => reply_of(8, needed, 0),
-        MendedNet::Refused(refusal) => refusal_given(refusal),
+        Ok((kept, dropped)) => reply_of(0, kept, dropped),
+        Err(MendError::Short(needed)) => reply_of(8, needed, 0),
+        Err(MendError::Refused(refusal)) => refusal_given(refusal),
     }
 }
 
 // The reply of a reason.
-pub fn reasoned_given(reasoned: Reasoned) -> Reply
+pub fn reasoned_given(reasoned: Result<u32, ReasonError>) -> Reply
     ensures { result ≡ reasoned_reply reasoned }
 {
     match reasoned {
-        Reasoned::Done(places) => reply_of(0, places, 0),
-        Reasoned::Unsupported => reply_of(7, 0, 0),
-        Reasoned::Short(needed) => reply_of(8, needed, 0),
-        Reasoned::Refused(refusal) => refusal_given(refusal),
+        Ok(places) => reply_of(0, places, 0),
+        Err(ReasonError::Unsupported) => reply_of(7, 0, 0),
+        Err(ReasonError::Short(needed)) => reply_of(8, needed, 0),
+        Err(ReasonError::Refused(refusal)) => refusal_given(refusal),
     }
 }
 
 // The reply of the check of a reason, or of a derivation.
-pub fn verdict_given(verdict: Verdict) -> Reply
+pub fn verdict_given(verdict: Result<bool, Refusal>) -> Reply
     ensures { result ≡ verdict_reply verdict }
 {
     match verdict {
-        Verdict::Holds => reply_of(0, 1, 0),
-        Verdict::Fails => reply_of(0, 0, 0),
-        Verdict::Refused(refusal) => refusal_given(refusal),
+        Ok(true) => reply_of(0, 1, 0),
+        Ok(false) => reply_of(0, 0, 0),
+        Err(refusal) => refusal_given(refusal),
     }
 }
 
 // The reply of an explanation.
-pub fn explained_given(explained: Explained) -> Reply
+pub fn explained_given(explained: Result<(u32, u32), ExplainError>) -> Reply
     ensures { result ≡ explained_reply explained }
 {
     match explained {
-        Explained::Done(lines, places) => reply_of(0, lines, places),
-        Explained::Unsupported => reply_of(7, 0, 0),
-        Explained::ShortReason(needed) => reply_of(8, needed, 0),
-        Explained::ShortLines(needed) => reply_of(8, needed, 1),
-        Explained::Refused(refusal) => refusal_given(refusal),
+        Ok((lines, places)) => reply_of(0, lines, places),
+        Err(ExplainError::Unsupported) => reply_of(7, 0, 0),
+        Err(ExplainError::ShortReason(needed)) => reply_of(8, needed, 0),
+        Err(ExplainError::ShortLines(needed)) => reply_of(8, needed, 1),
+        Err(ExplainError::Refused(refusal)) => refusal_given(refusal),
     }
 }
 
 // The reply of a proof.
-pub fn proved_given(proved: Proved) -> Reply
+pub fn proved_given(proved: Result<u32, ProofError>) -> Reply
     ensures { result ≡ proved_reply proved }
 {
     match proved {
-        Proved::Done(numbers) => reply_of(0, numbers, 0),
-        Proved::Unsupported => reply_of(7, 0, 0),
-        Proved::TooDeep => reply_of(11, 0, 0),
-        Proved::Short(needed) => reply_of(8, needed, 0),
-        Proved::Refused(refusal) => refusal_given(refusal),
+        Ok(numbers) => reply_of(0, numbers, 0),
+        Err(ProofError::Unsupported) => reply_of(7, 0, 0),
+        Err(ProofError::TooDeep) => reply_of(11, 0, 0),
+        Err(ProofError::Short(needed)) => reply_of(8, needed, 0),
+        Err(ProofError::Refused(refusal)) => refusal_given(refusal),
     }
 }
 
 // The reply of the check of a proof.
-pub fn judged_given(judged: Judged) -> Reply
+pub fn judged_given(judged: Result<(), JudgeError>) -> Reply
     ensures { result ≡ judged_reply judged }
 {
     match judged {
-        Judged::Accepted => reply_of(0, 0, 0),
-        Judged::Faulty(step) => reply_of(12, step, 0),
-        Judged::Refused(refusal) => refusal_given(refusal),
+        Ok(()) => reply_of(0, 0, 0),
+        Err(JudgeError::Faulty(step)) => reply_of(12, step, 0),
+        Err(JudgeError::Refused(refusal)) => refusal_given(refusal),
     }
 }
 
 // The reply of a valuation.
-pub fn filled_given(filled: Filled) -> Reply
+pub fn filled_given(filled: Result<(), ValuationError>) -> Reply
     ensures { result ≡ filled_reply filled }
 {
     match filled {
-        Filled::Done => reply_of(0, 0, 0),
-        Filled::ShortTable => reply_of(13, 0, 0),
-        Filled::Refused(refusal) => refusal_given(refusal),
+        Ok(()) => reply_of(0, 0, 0),
+        Err(ValuationError::ShortTable) => reply_of(13, 0, 0),
+        Err(ValuationError::Refused(refusal)) => refusal_given(refusal),
     }
 }
 
 // The reply of the test of a statement in a valuation.
-pub fn tested_given(tested: Tested) -> Reply
+pub fn tested_given(tested: Result<bool, TestError>) -> Reply
     ensures { result ≡ tested_reply tested }
 {
     match tested {
-        Tested::Holds => reply_of(0, 1, 0),
-        Tested::Fails => reply_of(0, 0, 0),
-        Tested::BadTable => reply_of(13, 0, 0),
-        Tested::Refused(refusal) => refusal_given(refusal),
+        Ok(holds) => verdict_given(Ok(holds)),
+        Err(TestError::BadTable) => reply_of(13, 0, 0),
+        Err(TestError::Refused(refusal)) => refusal_given(refusal),
     }
 }
 
 // The reply of a question of rows.
-pub fn answered_given(answered: Answered) -> Reply
+pub fn answered_given(answered: Result<Answer, Refusal>) -> Reply
     ensures { result ≡ answered_reply answered }
 {
     match answered {
-        Answered::Done(answer) => reply_of(0, answer_number(answer) as u32, 0),
-        Answered::Refused(refusal) => refusal_given(refusal),
+        Ok(answer) => reply_of(0, answer_number(answer) as u32, 0),
+        Err(refusal) => refusal_given(refusal),
     }
 }
 
 // The reply of a run of the marker unit.
-pub fn simulated_given(simulated: Simulated) -> Reply
+pub fn simulated_given(simulated: Result<u32, UnitError>) -> Reply
     ensures { result ≡ simulated_reply simulated }
 {
     match simulated {
-        Simulated::Done(count) => reply_of(0, count, 0),
-        Simulated::Spent(count) => reply_of(6, count, 0),
-        Simulated::Faulty(place) => reply_of(16, place, 0),
-        Simulated::Refused(refusal) => refusal_given(refusal),
+        Ok(count) => reply_of(0, count, 0),
+        Err(UnitError::Spent(count)) => reply_of(6, count, 0),
+        Err(UnitError::Faulty(place)) => reply_of(16, place, 0),
+        Err(UnitError::Refused(refusal)) => refusal_given(refusal),
     }
 }

@@ -1,4 +1,5 @@
 -- Replies whose values fit into 32 bits, from the check of a net on.
+use Rattle.std.specs.Prelude.{Err, Ok}
 use Prim.Native.Nat.{ℕ, ◌+◌, ◌<◌}
 use mathlib.Core.Path.{◌≡◌, refl, sym, subst}
 use mathlib.Core.Bool.{Bool, true, false, cond}
@@ -17,8 +18,7 @@ use Rattle.net.specs.Clauses.{Clause, call}
 use Rattle.net.proofs.OnNet.{by_check, on_net}
 use Rattle.net.specs.Table.{Reply, reply, net_clauses, check_net, checked_reply, refusal_reply}
 use Rattle.net.specs.declared.Refusal.{Refusal}
-use Rattle.net.specs.declared.Checked.{Checked}
-use Rattle.net.specs.declared.Checked.TheVariants.{Nodes, Refused}
+use Rattle.net.specs.Table.{Checked}
 use Rattle.library_reply.specs.Fits.{Fits}
 
 -- A reply that fits on both sides of a test fits after it.
@@ -60,17 +60,17 @@ module _ (o k : ℕ) (ws : List ℕ) (set : ℕ) where
       first = passing (legal_from origin_limit o (o + k)) ws
 
   -- An operation that passes refusals on has a reply that fits, if it has one for every net.
-  module _ (f : Checked → Reply) (passed : (r : Refusal) → f (Refused r) ≡ refusal_reply r) (nets : (n : ℕ) → check_net o k ws set ≡ Nodes n → Fits (f (Nodes n))) where
+  module _ (f : Checked → Reply) (passed : (r : Refusal) → f (Err r) ≡ refusal_reply r) (nets : (n : ℕ) → check_net o k ws set ≡ Ok n → Fits (f (Ok n))) where
     reply_fits : (net : Checked) → check_net o k ws set ≡ net → Fits (f net)
-    reply_fits (Nodes n) e = nets n e
-    reply_fits (Refused r) e = subst Fits (sym (passed r)) (carry_fits checked_reply e checked_fits)
+    reply_fits (Ok n) e = nets n e
+    reply_fits (Err r) e = subst Fits (sym (passed r)) (carry_fits checked_reply e checked_fits)
 
     pub operation_fits : Fits (f (check_net o k ws set))
     operation_fits = reply_fits (check_net o k ws set) refl
 
   -- The same of an operation whose table is a list of clauses.
   module _ {A : Type 0} (f : A → Reply) (refused : Refusal → A) (clauses : ℕ → List (Clause A)) (done : ℕ → A) where
-    pub table_fits : ((r : Refusal) → f (refused r) ≡ refusal_reply r) → ((n : ℕ) → check_net o k ws set ≡ Nodes n → Fits (f (call (clauses n) (done n))))
+    pub table_fits : ((r : Refusal) → f (refused r) ≡ refusal_reply r) → ((n : ℕ) → check_net o k ws set ≡ Ok n → Fits (f (call (clauses n) (done n))))
         → Fits (f (call (net_clauses refused o k ws set (clauses (o + k))) (done (o + k))))
     table_fits passed nets =
         subst (λ (a : A). Fits (f a)) (on_net refused o k ws set clauses done) (operation_fits (λ (net : Checked). f (by_check refused clauses done net)) passed nets)

@@ -1,7 +1,9 @@
 -- Each outcome of mending, in the terms of the code.
+use Rattle.mend.specs.declared.MendError.TheVariants.{Refused, Short}
+use Rattle.std.specs.Prelude.{Err, Ok}
 use Prim.Native.Nat.{ℕ, ◌+◌, ◌*◌, ◌/◌, ◌<◌, ◌≤◌}
 use mathlib.Core.Path.{◌≡◌}
-use mathlib.Core.Bool.{true, false, ◌||◌}
+use mathlib.Core.Bool.{true, false}
 use mathlib.Core.List.{List, [], ◌++◌}
 use native.Mathlib.Omega.{arith}
 use borrow.Author.Tests.{lt-ltb, le-ltb, ltb-false}
@@ -19,14 +21,6 @@ use Rattle.scan_start.specs.Starts.{cleared}
 use Rattle.net.specs.Clauses.{call}
 use Rattle.net.specs.declared.Refusal.TheVariants.{ShortBuffer}
 use Rattle.mend.specs.Table.{mending_outcome, too_short, mending_clauses, mending_done}
-use Rattle.mend.specs.declared.MendedNet.TheVariants.{Done, Short, Refused}
-
--- The test of clause 8.
-pub kept_short : (a b c : ℕ) → a < c → true ≡ (ltb a c || ltb (b / 3) c)
-kept_short a b c h = rw (lt-ltb a c h)
-
-pub dropped_short : (a b c : ℕ) → c ≤ a → ltb (b / 3) c ≡ (ltb a c || ltb (b / 3) c)
-dropped_short a b c h = rw (le-ltb a c h)
 
 -- Both counts are below 2^32.
 pub told_few : (o k : ℕ) (ws : List ℕ) → Net o k ws → {a b : ℕ} → (a ≡ length (kept_from o k [] ws)) × (b ≡ length (dropped_from o k [] ws)) → (a < 4294967296) × (b < 4294967296)
@@ -37,13 +31,13 @@ told_few o k ws net e =
 module _ (o k n : ℕ) (ws kept dropped m : List ℕ) where
   -- Number 5.
   pub mend_unmarked : length m < n
-      → mending_outcome (Refused ShortBuffer) kept dropped m ≡ call (mending_clauses ws kept dropped m n) (mending_done (kept_from o k [] ws) (dropped_from o k [] ws) kept dropped m n)
+      → mending_outcome (Err (Refused ShortBuffer)) kept dropped m ≡ call (mending_clauses ws kept dropped m n) (mending_done (kept_from o k [] ws) (dropped_from o k [] ws) kept dropped m n)
   mend_unmarked h = rw (lt-ltb (length m) n h)
 
   module _ (room : n ≤ length m) where
     -- Number 8.
     pub mend_short : {m' : List ℕ} → too_short ws kept dropped ≡ true → m' ≡ cleared n m
-        → mending_outcome (Short (length ws)) kept dropped m' ≡ call (mending_clauses ws kept dropped m n) (mending_done (kept_from o k [] ws) (dropped_from o k [] ws) kept dropped m n)
+        → mending_outcome (Err (Short (length ws))) kept dropped m' ≡ call (mending_clauses ws kept dropped m n) (mending_done (kept_from o k [] ws) (dropped_from o k [] ws) kept dropped m n)
     mend_short h e = rw (le-ltb (length m) n room, h, e)
 
     module _ (h : too_short ws kept dropped ≡ false) where
@@ -58,5 +52,5 @@ module _ (o k n : ℕ) (ws kept dropped m : List ℕ) where
       -- Number 0.
       pub mend_done : {a b : ℕ} {kept' dropped' m₁ m₂ : List ℕ} → kept' ≡ over (kept_from o k [] ws) kept → dropped' ≡ over (threes (dropped_from o k [] ws)) dropped
           → (a ≡ length (kept_from o k [] ws)) × (b ≡ length (dropped_from o k [] ws)) → m₂ ≡ blank n ++ m₁ → m₁ ≡ drop n m
-          → mending_outcome (Done a b) kept' dropped' m₂ ≡ call (mending_clauses ws kept dropped m n) (mending_done (kept_from o k [] ws) (dropped_from o k [] ws) kept dropped m n)
+          → mending_outcome (Ok (a, b)) kept' dropped' m₂ ≡ call (mending_clauses ws kept dropped m n) (mending_done (kept_from o k [] ws) (dropped_from o k [] ws) kept dropped m n)
       mend_done p q c e d = rw (le-ltb (length m) n room, h, p, q, c.0, c.1, e, d)

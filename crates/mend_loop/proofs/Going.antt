@@ -1,12 +1,11 @@
 -- The loop over the words: what is left to do gives, behind what is done, what the whole does.
 use Prim.Native.Nat.{ℕ, ◌+◌, ◌*◌, ◌≤◌, ◌<◌}
 use mathlib.Core.Path.{◌≡◌, refl, sym, ap, ◌∙◌}
-use mathlib.Core.Bool.{true, false, cond}
+use mathlib.Core.Bool.{true, false}
 use mathlib.Core.List.{List, [], ◌∷◌, ◌++◌, append_assoc, append-nil}
 use native.Mathlib.Omega.{arith}
 use native.Mathlib.Numerals.{add-one}
 use borrow.Author.Tests.{lt-ltb, le-ltb}
-use lib.Dec.{ltb}
 use lib.ListN.{length, get_or, take, drop, set, length-set, length-append, length-drop, take-append-drop, drop_of_length-le}
 use lib.Seq.{length-take-le, drop-cons, drop-drop, drop-set-lt, take_at, drop_at}
 use Rattle.theory_laws.specs.Over.{over}
@@ -19,12 +18,6 @@ use Rattle.mend_loop.proofs.Trying.{one_more, more_inside}
 -- Where the search for a kind ends.
 pub kind_bound : (o k : ℕ) (ws : List ℕ) (x : ℕ) → clashing_kind o k ws x ≤ o + k
 kind_bound o k ws x = (first_found _ _ _ o k).high
-
--- So does the kind that was tried.
-pub kind_fits : (o k n : ℕ) (ws : List ℕ) {node kind : ℕ} → n ≡ o + k → node < n → kind ≡ cond (ltb node n) (clashing_kind o k ws node) n → kind ≤ n
-kind_fits o k n ws {node} {kind} z h q =
-    let e : kind ≡ clashing_kind o k ws node = rw (lt-ltb node n h) at q in
-    omega (arith, kind_bound o k ws node)
 
 -- ── one word more of the definition ──
 module _ (o k : ℕ) (kept : List ℕ) (w : ℕ) (ws : List ℕ) where
@@ -153,20 +146,6 @@ module _ (o k n : ℕ) (ws kept₀ dropped₀ m₀ : List ℕ) where
               marks_past = m-past ∙ g.marks_past;
               inside = g.inside;
             }
-
-      -- The same in the terms of the code, which leaves the list of kept words by cases.
-      module _ {node : ℕ} (f : node ≡ clashing_node n (K ++ w ∷ []) w) {kept' : List ℕ} (left : kept' ≡ cond (ltb node n) kept (set kept count w))
-          {m' : List ℕ} (m-long : length m' ≡ length m) (m-past : drop n m' ≡ drop n m) where
-        pub went_keep : n ≤ node → Ends n w → Going kept' dropped m' (count + 1) lost (i + 1)
-        went_keep h d =
-            let e : kept' ≡ set kept count w = rw (le-ltb node n h) at left in
-            rw e (going_keep f m-long m-past h d)
-
-        pub went_drop : {kind : ℕ} {dropped' : List ℕ} → node < n → kind ≡ cond (ltb node n) (clashing_kind o k (K ++ w ∷ []) node) n
-            → dropped' ≡ take (3 * lost) dropped ++ w ∷ node ∷ kind ∷ drop (3 * lost + 3) dropped → Going kept' dropped' m' count (lost + 1) (i + 1)
-        went_drop h q p =
-            let e : kept' ≡ kept = rw (lt-ltb node n h) at left in
-            rw e (going_drop f m-long m-past h (rw (lt-ltb node n h) at q) p)
 
     -- All words are read.
     module _ (l : length ws ≤ i) where

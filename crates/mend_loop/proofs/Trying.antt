@@ -1,14 +1,11 @@
 -- One word tried, in the terms of the code.
 use Prim.Native.Nat.{ℕ, suc, ◌+◌, ◌≤◌, ◌<◌}
 use mathlib.Core.Path.{◌≡◌, sym, ◌∙◌}
-use mathlib.Core.Bool.{cond}
 use mathlib.Core.List.Memᴰ
 use mathlib.Core.List.{List, [], ◌∷◌, ◌++◌, append_assoc, Memᴰ}
 use mathlib.Core.Logic.{⊎_elim}
 use native.Mathlib.Omega.{arith}
 use native.Mathlib.Numerals.{add-one}
-use borrow.Author.Tests.{lt-ltb, le-ltb}
-use lib.Dec.{ltb}
 use lib.ListN.{length, get_or, take, drop, set, length-set}
 use lib.Seq.{length-take-le, take-suc-set, set-set, set-get_or, sets-eq}
 use Rattle.theory.specs.Inside.{Ends, Inside}
@@ -28,19 +25,17 @@ module _ (l : List ℕ) (i w : ℕ) (h : i < length l) where
   pub more_inside : (n : ℕ) → Inside n (take i l) → Ends n w → Inside n (take (i + 1) (set l i w))
   more_inside n e d = rw one_more (λ v m. ⊎_elim (e v) (only v w d) (Memᴰ.append_cases (take i l) m))
 
-  module _ (o k n : ℕ) {node : ℕ} (f : node ≡ clashing_node n (take (i + 1) (set l i w)) w) where
-    -- What one try leaves; d and d' are the bytes past the nodes.
-    abbrev pub Left : ℕ → List ℕ → List ℕ → List ℕ → Type 0
-    Left kind l' d d' =
-        (node ≡ clashing_node n (take i l ++ w ∷ []) w)
-        × ((kind ≡ cond (ltb node n) (clashing_kind o k (take i l ++ w ∷ []) node) n) × ((l' ≡ cond (ltb node n) l (set l i w)) × (d' ≡ d)))
+  -- The same of the node and the kind that a try finds.
+  module _ (n : ℕ) {node : ℕ} (f : node ≡ clashing_node n (take (i + 1) (set l i w)) w) where
+    pub node_found : node ≡ clashing_node n (take i l ++ w ∷ []) w
+    node_found = rw one_more at f
 
-    pub no_clash : {d d' : List ℕ} → n ≤ node → d' ≡ d → Left n (set l i w) d d'
-    no_clash g p = (rw one_more at f, (rw (le-ltb node n g), (rw (le-ltb node n g), p)))
+    pub kind_found : (o k : ℕ) {kind : ℕ} → kind ≡ clashing_kind o k (take (i + 1) (set l i w)) node → kind ≡ clashing_kind o k (take i l ++ w ∷ []) node
+    kind_found o k e = rw one_more at e
 
-    pub some_clash : {kind : ℕ} {d d' d'' : List ℕ} → node < n → d' ≡ d → kind ≡ clashing_kind o k (take (i + 1) (set l i w)) node → d'' ≡ d'
-        → Left kind (set (set l i w) i (get_or l i 0)) d d''
-    some_clash g p e q = (rw one_more at f, (rw (lt-ltb node n g) (rw one_more at e), (rw (lt-ltb node n g) (set-set l i w (get_or l i 0) ∙ set-get_or l i 0), q ∙ p)))
+  -- What stood at the place is put back.
+  pub put_back : set (set l i w) i (get_or l i 0) ≡ l
+  put_back = set-set l i w (get_or l i 0) ∙ set-get_or l i 0
 
 -- Three numbers stored one after another.
 pub three : (l : List ℕ) (i a b c : ℕ) → i + 3 ≤ length l → set (set (set l i a) (i + 1) b) (i + 2) c ≡ take i l ++ a ∷ b ∷ c ∷ drop (i + 3) l

@@ -1,16 +1,17 @@
 // One word tried beside those kept so far, and all words in listed order.
 #![tactic(auto)]
 
-ghost use Rattle.std.specs.Prelude.{◌≡◌, cond, [], ◌∷◌, ◌++◌, ◌+◌, ◌*◌, ◌<◌, ◌≤◌, ltb, length, take, drop, set};
+ghost use Rattle.std.specs.Prelude.{◌≡◌, cond, [], ◌∷◌, ◌++◌, ◌+◌, ◌*◌, ◌<◌, ◌≤◌, length, take, drop, set};
+ghost use Rattle.std.specs.Option.{MatchOption, is_some};
 ghost use Rattle.theory_laws.specs.Over.{over};
 ghost use Rattle.theory.specs.Inside.{Ends, Inside};
 ghost use Rattle.theory.specs.Mending.{clashing_node, clashing_kind, threes, kept_from, dropped_from};
 
 use mend_trial::{clashing_kind, clashing_node};
 
-// The clash that a word makes: its node and its kind. The node is not below `n` where there is none.
+// The clash that a word makes: its node and its kind.
 #[derive(Drop)]
-struct Tried {
+struct Clash {
     node: usize,
     kind: usize,
 }
@@ -22,7 +23,7 @@ pub struct Counts {
     pub dropped: usize,
 }
 
-// Tries `word` beside the `count` words in front of `kept`; it stands behind them afterwards if it makes no clash.
+// Tries `word` beside the `count` words in front of `kept`: the clash that it makes, or it stands behind them afterwards.
 fn try_word(
     o: usize,
     k: usize,
@@ -31,33 +32,26 @@ fn try_word(
     count: usize,
     kept: &mut [u32],
     marks: &mut [u8],
-) -> Tried
+) -> Option<Clash>
     requires size { n ≡ o + k }
     requires few { n ≤ 1024 }
     requires place { count < length kept.old }
     requires inside { Inside n (take count kept.old) }
     requires ends { Ends n word }
     requires room { n ≤ length marks.old }
-    ensures node { result.node ≡ clashing_node n (take count kept.old ++ word ∷ []) word }
-    ensures kind { result.kind ≡ cond (ltb result.node n) (clashing_kind o k (take count kept.old ++ word ∷ []) result.node) n }
-    ensures left { kept.new ≡ cond (ltb result.node n) kept.old (set kept.old count word) }
+    ensures clash { MatchOption result (n ≤ clashing_node n (take count kept.old ++ word ∷ []) word) (λ c. (c.node ≡ clashing_node n (take count kept.old ++ word ∷ []) word) × (c.node < n) × (c.kind ≡ clashing_kind o k (take count kept.old ++ word ∷ []) c.node)) }
+    ensures left { kept.new ≡ cond (is_some result) kept.old (set kept.old count word) }
     ensures past { drop n marks.new ≡ drop n marks.old }
 {
     let old = kept[count];
     kept[count] = word;
     let node = clashing_node(n, &kept[..count + 1], word, marks);
     if n <= node {
-        return Tried {
-            node: node,
-            kind: n,
-        };
+        return None;
     }
     let kind = clashing_kind(o, k, n, &kept[..count + 1], node, marks);
     kept[count] = old;
-    Tried {
-        node: node,
-        kind: kind,
-    }
+    Some(Clash { node, kind })
 }
 
 // The three numbers of a dropped word, at place `at`.
@@ -93,19 +87,20 @@ pub fn mend_all(
 {
     let mut count = 0;
     let mut lost = 0;
-    let mut i = 0;
-    while i < words.len() {
-        let word = words[i];
-        let tried = try_word(o, k, n, word, count, kept, marks);
-        let node = tried.node;
-        let kind = tried.kind;
-        if node < n {
-            put_drop(word, node as u32, kind as u32, 3 * lost, dropped);
-            lost += 1;
-        } else {
-            count += 1;
+    for &word in words {
+        match try_word(o, k, n, word, count, kept, marks) {
+            Some(clash) => {
+                put_drop(
+                    word,
+                    clash.node as u32,
+                    clash.kind as u32,
+                    3 * lost,
+                    dropped,
+                );
+                lost += 1;
+            }
+            None => count += 1,
         }
-        i += 1;
     }
     Counts {
         kept: count,

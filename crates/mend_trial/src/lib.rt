@@ -30,14 +30,12 @@ fn first_with(kinds: bool, from: usize, n: usize, marks: &[u8]) -> usize
     requires { (from ≤ n) × (n ≤ length marks.now) }
     ensures { result ≡ first_with (cond kinds U T) F marks.now from (n - from) }
 {
-    let mut v = from;
-    while v < n {
+    for v in from..n {
         if has_both(kinds, marks[v]) {
             return v;
         }
-        v += 1;
     }
-    v
+    n
 }
 
 // The marks to begin with for one word more, `word`.
@@ -69,6 +67,7 @@ fn settle(n: usize, words: &[u32], marks: &mut [u8])
 }
 
 // The smallest node that clashes in `words`, which had no clash without `word`; `n` where none does.
+// None is the number `n` here and in the search for a kind: the clauses `found` name the definitions of both, whose values are numbers.
 pub fn clashing_node(n: usize, words: &[u32], word: u32, marks: &mut [u8]) -> usize
     requires inside { Inside n words.now }
     requires ends { Ends n word }

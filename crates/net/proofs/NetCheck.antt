@@ -1,4 +1,5 @@
 -- The two checks say yes exactly to nets, and give each refusal exactly where its clause says.
+use Rattle.std.specs.Prelude.{Err, Ok}
 use Prim.Native.Nat.{ℕ, suc, ◌+◌, ◌<◌, ◌≤◌, zero-le, suc-le-suc}
 use mathlib.Core.Path.{◌≡◌, refl, sym, ap, subst, ◌∙◌}
 use mathlib.Core.Bool.{Bool, true, false, cond}
@@ -24,8 +25,7 @@ use Rattle.net_word.proofs.Causes.{plain_cause_exactly, cause_exactly}
 use Rattle.net.specs.Passing.{passing, FirstFailing, FirstIllegal, FirstIllegalPlain}
 use Rattle.net.specs.Table.{check_net, check_plain}
 use Rattle.net.specs.declared.Refusal.TheVariants.{TooManyNodes, TooManyWords, BadSet, IllegalWord, BadQuestion, ShortBuffer}
-use Rattle.net.specs.declared.Checked.{Checked}
-use Rattle.net.specs.declared.Checked.TheVariants.{Nodes, Refused}
+use Rattle.net.specs.Table.{Checked}
 use Rattle.net.proofs.Passing.{passing_passes, passing_fails, passing_is}
 
 -- What holds at every place of a list holds of every member.
@@ -39,27 +39,27 @@ at_places P (v ∷ ws) f w (Memᴰ.tail h) = at_places P ws (λ j l. f (suc j) (
 module _ (o k : ℕ) (ws : List ℕ) (bad : Bool) (P : ℕ → Type 0) (Why : ℕ → Cause → Type 0) where
   -- When each answer is given.
   abbrev Given : Checked → Type 0
-  Given (Nodes n) = (n ≡ o + k) × (o + k ≤ node_limit) × (length ws ≤ word_limit) × (bad ≡ false) × ((w : ℕ) → Memᴰ w ws → P w)
-  Given (Refused TooManyNodes) = node_limit < o + k
-  Given (Refused TooManyWords) = (o + k ≤ node_limit) × (word_limit < length ws)
-  Given (Refused BadSet) = (o + k ≤ node_limit) × (length ws ≤ word_limit) × (bad ≡ true)
-  Given (Refused (IllegalWord i c)) = (o + k ≤ node_limit) × (length ws ≤ word_limit) × (bad ≡ false) × FirstFailing P ws i × Why (get_or ws i 0) c
-  Given (Refused BadQuestion) = ⊥
-  Given (Refused ShortBuffer) = ⊥
+  Given (Ok n) = (n ≡ o + k) × (o + k ≤ node_limit) × (length ws ≤ word_limit) × (bad ≡ false) × ((w : ℕ) → Memᴰ w ws → P w)
+  Given (Err TooManyNodes) = node_limit < o + k
+  Given (Err TooManyWords) = (o + k ≤ node_limit) × (word_limit < length ws)
+  Given (Err BadSet) = (o + k ≤ node_limit) × (length ws ≤ word_limit) × (bad ≡ true)
+  Given (Err (IllegalWord i c)) = (o + k ≤ node_limit) × (length ws ≤ word_limit) × (bad ≡ false) × FirstFailing P ws i × Why (get_or ws i 0) c
+  Given (Err BadQuestion) = ⊥
+  Given (Err ShortBuffer) = ⊥
 
   module _ (test : ℕ → Bool) (why : ℕ → Cause) (tested : (w : ℕ) → Decides (test w) (P w)) (caused : (w : ℕ) → (P w → ⊥) → (c : Cause) → (why w ≡ c) ↔ Why w c) where
     -- The four tests in a row.
     abbrev words : Bool → Checked
-    words q = cond q (Refused (IllegalWord (passing test ws) (why (get_or ws (passing test ws) 0)))) (Nodes (o + k))
+    words q = cond q (Err (IllegalWord (passing test ws) (why (get_or ws (passing test ws) 0)))) (Ok (o + k))
 
     abbrev set : Bool → Checked
-    set q = cond q (Refused BadSet) (words (ltb (passing test ws) (length ws)))
+    set q = cond q (Err BadSet) (words (ltb (passing test ws) (length ws)))
 
     abbrev long : Bool → Checked
-    long q = cond q (Refused TooManyWords) (set bad)
+    long q = cond q (Err TooManyWords) (set bad)
 
     abbrev many : Bool → Checked
-    many q = cond q (Refused TooManyNodes) (long (ltb word_limit (length ws)))
+    many q = cond q (Err TooManyNodes) (long (ltb word_limit (length ws)))
 
     first_failing : passing test ws < length ws → FirstFailing P ws (passing test ws)
     first_failing l = record {
@@ -104,17 +104,17 @@ module _ (o k : ℕ) (ws : List ℕ) (bad : Bool) (P : ℕ → Type 0) (Why : �
 
     -- and an answer that may be given is.
     is_given : (r : Checked) → Given r → many (ltb node_limit (o + k)) ≡ r
-    is_given (Nodes n) g =
-        rw (le-ltb node_limit (o + k) g.1, le-ltb word_limit (length ws) g.2, g.3, to_the_end g.4, le-ltb (length ws) (length ws) (le_refl (length ws))) (ap Nodes (sym g.0))
-    is_given (Refused TooManyNodes) g = rw (lt-ltb node_limit (o + k) g)
-    is_given (Refused TooManyWords) g = rw (le-ltb node_limit (o + k) g.0, lt-ltb word_limit (length ws) g.1)
-    is_given (Refused BadSet) g = rw (le-ltb node_limit (o + k) g.0, le-ltb word_limit (length ws) g.1, g.2)
-    is_given (Refused (IllegalWord i c)) g =
+    is_given (Ok n) g =
+        rw (le-ltb node_limit (o + k) g.1, le-ltb word_limit (length ws) g.2, g.3, to_the_end g.4, le-ltb (length ws) (length ws) (le_refl (length ws))) (ap Ok (sym g.0))
+    is_given (Err TooManyNodes) g = rw (lt-ltb node_limit (o + k) g)
+    is_given (Err TooManyWords) g = rw (le-ltb node_limit (o + k) g.0, lt-ltb word_limit (length ws) g.1)
+    is_given (Err BadSet) g = rw (le-ltb node_limit (o + k) g.0, le-ltb word_limit (length ws) g.1, g.2)
+    is_given (Err (IllegalWord i c)) g =
         let f = g.3 in
         rw (le-ltb node_limit (o + k) g.0, le-ltb word_limit (length ws) g.1, g.2, first_is i f, lt-ltb i (length ws) f.below)
-        (ap (λ (d : Cause). Refused (IllegalWord i d)) ((caused (get_or ws i 0) f.fails c).1 g.4))
-    is_given (Refused BadQuestion) g = absurd g
-    is_given (Refused ShortBuffer) g = absurd g
+        (ap (λ (d : Cause). Err (IllegalWord i d)) ((caused (get_or ws i 0) f.fails c).1 g.4))
+    is_given (Err BadQuestion) g = absurd g
+    is_given (Err ShortBuffer) g = absurd g
 
     exactly : (r : Checked) → (many (ltb node_limit (o + k)) ≡ r) ↔ Given r
     exactly r = ((λ e. subst Given e given), is_given r)
@@ -127,40 +127,40 @@ module _ (o k : ℕ) (ws : List ℕ) (set : ℕ) where
       exactly o k ws (ltb set_limit set) (LegalFrom o k) (Because o k) (legal_from origin_limit o (o + k)) (cause_of (o + k)) (legal_from_means o k) (cause_exactly o k)
 
   -- Number 1 is given exactly if there are too many nodes.
-  pub many_nodes_exactly : (check_net o k ws set ≡ Refused TooManyNodes) ↔ (node_limit < o + k)
-  many_nodes_exactly = net_exactly (Refused TooManyNodes)
+  pub many_nodes_exactly : (check_net o k ws set ≡ Err TooManyNodes) ↔ (node_limit < o + k)
+  many_nodes_exactly = net_exactly (Err TooManyNodes)
 
   -- Number 2 is given exactly if the nodes are few enough and there are too many words.
-  pub many_words_exactly : (check_net o k ws set ≡ Refused TooManyWords) ↔ ((o + k ≤ node_limit) × (word_limit < length ws))
-  many_words_exactly = net_exactly (Refused TooManyWords)
+  pub many_words_exactly : (check_net o k ws set ≡ Err TooManyWords) ↔ ((o + k ≤ node_limit) × (word_limit < length ws))
+  many_words_exactly = net_exactly (Err TooManyWords)
 
   -- Number 15 is given exactly if nodes and words are few enough, and the set is above 15.
-  pub bad_set_exactly : (check_net o k ws set ≡ Refused BadSet) ↔ ((o + k ≤ node_limit) × (length ws ≤ word_limit) × (set_limit < set))
+  pub bad_set_exactly : (check_net o k ws set ≡ Err BadSet) ↔ ((o + k ≤ node_limit) × (length ws ≤ word_limit) × (set_limit < set))
   bad_set_exactly =
-      let e = net_exactly (Refused BadSet) in
+      let e = net_exactly (Err BadSet) in
       ((λ h. let g = e.0 h in (g.0, g.1, ltb-true set_limit set g.2)), λ g. e.1 (g.0, g.1, lt-ltb set_limit set g.2))
 
   -- Number 3 is given exactly if nodes and words are few enough and the set is at most 15, and then for the first illegal word, with its cause.
   pub illegal_word_exactly : (i : ℕ) (c : Cause)
-      → (check_net o k ws set ≡ Refused (IllegalWord i c)) ↔ ((o + k ≤ node_limit) × (length ws ≤ word_limit) × (set ≤ set_limit) × FirstIllegal o k ws i × Because o k (get_or ws i 0) c)
+      → (check_net o k ws set ≡ Err (IllegalWord i c)) ↔ ((o + k ≤ node_limit) × (length ws ≤ word_limit) × (set ≤ set_limit) × FirstIllegal o k ws i × Because o k (get_or ws i 0) c)
   illegal_word_exactly i c =
-      let e = net_exactly (Refused (IllegalWord i c)) in
+      let e = net_exactly (Err (IllegalWord i c)) in
       ((λ h. let g = e.0 h in (g.0, g.1, ltb-false set_limit set g.2, g.3, g.4)), λ g. e.1 (g.0, g.1, le-ltb set_limit set g.2, g.3, g.4))
 
   -- A number of nodes is given exactly for a net and a set of origins, and it is the net's.
-  pub nodes_exactly : (n : ℕ) → (check_net o k ws set ≡ Nodes n) ↔ ((n ≡ o + k) × (set ≤ set_limit) × NetFrom o k ws)
+  pub nodes_exactly : (n : ℕ) → (check_net o k ws set ≡ Ok n) ↔ ((n ≡ o + k) × (set ≤ set_limit) × NetFrom o k ws)
   nodes_exactly n =
-      let e = net_exactly (Nodes n) in (
+      let e = net_exactly (Ok n) in (
         (λ h. let g = e.0 h in (g.0, ltb-false set_limit set g.3, record { few = g.1; short = g.2; legal = g.4 })),
         λ g. e.1 (g.0, g.2.few, g.2.short, le-ltb set_limit set g.1, g.2.legal),
       )
 
   -- What passes the check is a net with origins, and what the set chooses from it is a net.
-  pub chosen_checked : {n : ℕ} → check_net o k ws set ≡ Nodes n → (n ≡ o + k) × NetFrom o k ws × Net o k (chosen set ws)
+  pub chosen_checked : {n : ℕ} → check_net o k ws set ≡ Ok n → (n ≡ o + k) × NetFrom o k ws × Net o k (chosen set ws)
   chosen_checked {n} e = let g = (nodes_exactly n).0 e in (g.0, g.2, chosen_net set o k ws g.2)
 
   -- Every net with origins passes it with every set of origins.
-  pub net_is_checked : set ≤ set_limit → NetFrom o k ws → check_net o k ws set ≡ Nodes (o + k)
+  pub net_is_checked : set ≤ set_limit → NetFrom o k ws → check_net o k ws set ≡ Ok (o + k)
   net_is_checked h net = (nodes_exactly (o + k)).1 (refl, h, net)
 
 -- ── the check of a plain list ──
@@ -169,28 +169,28 @@ module _ (o k : ℕ) (ws : List ℕ) where
   unfolding check_plain
   plain_exactly = exactly o k ws false (LegalWord o k) (BecausePlain o k) (legal o (o + k)) (plain_cause (o + k)) (legal_means o k) (plain_cause_exactly o k)
 
-  pub plain_nodes_exactly : (check_plain o k ws ≡ Refused TooManyNodes) ↔ (node_limit < o + k)
-  plain_nodes_exactly = plain_exactly (Refused TooManyNodes)
+  pub plain_nodes_exactly : (check_plain o k ws ≡ Err TooManyNodes) ↔ (node_limit < o + k)
+  plain_nodes_exactly = plain_exactly (Err TooManyNodes)
 
-  pub plain_words_exactly : (check_plain o k ws ≡ Refused TooManyWords) ↔ ((o + k ≤ node_limit) × (word_limit < length ws))
-  plain_words_exactly = plain_exactly (Refused TooManyWords)
+  pub plain_words_exactly : (check_plain o k ws ≡ Err TooManyWords) ↔ ((o + k ≤ node_limit) × (word_limit < length ws))
+  plain_words_exactly = plain_exactly (Err TooManyWords)
 
   pub plain_illegal_exactly : (i : ℕ) (c : Cause)
-      → (check_plain o k ws ≡ Refused (IllegalWord i c)) ↔ ((o + k ≤ node_limit) × (length ws ≤ word_limit) × FirstIllegalPlain o k ws i × BecausePlain o k (get_or ws i 0) c)
+      → (check_plain o k ws ≡ Err (IllegalWord i c)) ↔ ((o + k ≤ node_limit) × (length ws ≤ word_limit) × FirstIllegalPlain o k ws i × BecausePlain o k (get_or ws i 0) c)
   plain_illegal_exactly i c =
-      let e = plain_exactly (Refused (IllegalWord i c)) in
+      let e = plain_exactly (Err (IllegalWord i c)) in
       ((λ h. let g = e.0 h in (g.0, g.1, g.3, g.4)), λ g. e.1 (g.0, g.1, refl, g.2, g.3))
 
   -- What passes is a net,
-  pub plain_checked : {n : ℕ} → check_plain o k ws ≡ Nodes n → (n ≡ o + k) × Net o k ws
-  plain_checked {n} e = let g = (plain_exactly (Nodes n)).0 e in (g.0, record { few = g.1; short = g.2; legal = g.4 })
+  pub plain_checked : {n : ℕ} → check_plain o k ws ≡ Ok n → (n ≡ o + k) × Net o k ws
+  plain_checked {n} e = let g = (plain_exactly (Ok n)).0 e in (g.0, record { few = g.1; short = g.2; legal = g.4 })
 
   -- every net passes,
-  pub plain_is_checked : Net o k ws → check_plain o k ws ≡ Nodes (o + k)
-  plain_is_checked net = (plain_exactly (Nodes (o + k))).1 (refl, net.few, net.short, refl, net.legal)
+  pub plain_is_checked : Net o k ws → check_plain o k ws ≡ Ok (o + k)
+  plain_is_checked net = (plain_exactly (Ok (o + k))).1 (refl, net.few, net.short, refl, net.legal)
 
   -- and read with a set that has 0, such as 1, what passes is a net with origins that is chosen whole.
-  pub plain_chosen : {n : ℕ} → check_plain o k ws ≡ Nodes n → (set : ℕ) → set ≤ set_limit → among set 0 ≡ true → (check_net o k ws set ≡ Nodes n) × (chosen set ws ≡ ws)
+  pub plain_chosen : {n : ℕ} → check_plain o k ws ≡ Ok n → (set : ℕ) → set ≤ set_limit → among set 0 ≡ true → (check_net o k ws set ≡ Ok n) × (chosen set ws ≡ ws)
   plain_chosen e set h z =
       let (a, net) = plain_checked e in
-      (net_is_checked o k ws set h (net_from o k ws net) ∙ ap Nodes (sym a), chosen_plain set z ws (net_plain o k ws net))
+      (net_is_checked o k ws set h (net_from o k ws net) ∙ ap Ok (sym a), chosen_plain set z ws (net_plain o k ws net))

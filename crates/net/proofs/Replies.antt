@@ -1,4 +1,5 @@
 -- The reply tells which refusal it is.
+use Rattle.std.specs.Prelude.{Err, Ok}
 use Prim.Native.Nat.{ℕ, zero, suc, ◌-◌, ◌<◌}
 use mathlib.Core.Path.{◌≡◌, refl, sym, ap, ◌∙◌}
 use mathlib.Core.Bool.{Bool, true, false, cond, ◌&&◌, ◌||◌}
@@ -9,8 +10,7 @@ use Rattle.theory_laws.proofs.Booleans.{contradiction}
 use Rattle.net_word.specs.declared.Cause.{Cause}
 use Rattle.net_word.specs.declared.Cause.TheVariants.{Tail, Head, Origin}
 use Rattle.net.specs.Table.{Reply, refusal_reply, checked_reply}
-use Rattle.net.specs.declared.Checked.{Checked}
-use Rattle.net.specs.declared.Checked.TheVariants.{Nodes, Refused}
+use Rattle.net.specs.Table.{Checked}
 use Rattle.net.specs.declared.Refusal.{Refusal}
 use Rattle.net.specs.declared.Refusal.TheVariants.{TooManyNodes, TooManyWords, IllegalWord, BadQuestion, ShortBuffer, BadSet}
 
@@ -61,11 +61,11 @@ refusal_not r n h = ne_eqb (refusal_reply r).number n (λ (e : (refusal_reply r)
 
 -- The answer of the check of a net.
 abbrev checked_at : Reply → Checked
-checked_at r = cond (eqb r.number 0) (Nodes r.first) (Refused (refusal_at r))
+checked_at r = cond (eqb r.number 0) (Ok r.first) (Err (refusal_at r))
 
 checked_at_reply : (c : Checked) → checked_at (checked_reply c) ≡ c
-checked_at_reply (Nodes n) = refl
-checked_at_reply (Refused r) = rw (refusal_not r 0 refl, refusal_at_reply r)
+checked_at_reply (Ok n) = refl
+checked_at_reply (Err r) = rw (refusal_not r 0 refl, refusal_at_reply r)
 
 -- No two answers of the check of a net have one reply.
 pub checked_reply_one_to_one : (c d : Checked) → checked_reply c ≡ checked_reply d → c ≡ d

@@ -1,6 +1,6 @@
 -- Numbers 1, 2, 15 and 3 as the check of a net, numbers 1 to 3 as that of a plain list, the tests of number 4 for a statement, and what a reply is:
 -- of each refusal, and of those checks.
-use Rattle.std.specs.Prelude.{ℕ, ◌+◌, Bool, ◌||◌, List, [], ◌∷◌, ltb, leb, length, get_or}
+use Rattle.std.specs.Prelude.{ℕ, ◌+◌, Bool, ◌||◌, List, [], ◌∷◌, ltb, leb, length, get_or, Err, Ok, Result}
 use Rattle.theory.specs.Words.{node_limit, word_limit}
 use Rattle.theory.specs.Origins.{origin_limit, set_limit}
 use Rattle.net_word.specs.Legal.{legal, legal_from, plain_cause, cause_of, cause_number}
@@ -9,8 +9,6 @@ use Rattle.net.specs.Clauses.{Clause, clause, call}
 use Rattle.net.specs.declared.Refusal.{Refusal}
 use Rattle.net.specs.declared.Refusal.TheVariants.{TooManyNodes, TooManyWords, BadSet, IllegalWord, BadQuestion, ShortBuffer}
 use Rattle.net.specs.declared.Reply as struct
-use Rattle.net.specs.declared.Checked.{Checked}
-use Rattle.net.specs.declared.Checked.TheVariants.{Nodes, Refused}
 
 -- The refusal of the illegal word w at index i, with its cause: of a word with an origin, and of a plain one.
 abbrev pub illegal_at : ℕ → ℕ → ℕ → Refusal
@@ -40,26 +38,30 @@ net_clauses refused o k ws set rest =
 abbrev pub plain_clauses : {A : Type 0} → (Refusal → A) → ℕ → ℕ → List ℕ → List (Clause A) → List (Clause A)
 plain_clauses refused o k ws rest = size_clauses refused o k (length ws) (word_clause refused (legal o (o + k)) (illegal_plain (o + k)) ws ∷ rest)
 
+-- What the check of a net answers: the number of its nodes, or a refusal.
+abbrev pub Checked : Type 0
+Checked = Result ℕ Refusal
+
 -- The check of a net: these clauses, or the number of nodes.
 abbrev pub net_table : ℕ → ℕ → List ℕ → ℕ → List (Clause Checked)
-net_table o k ws set = net_clauses Refused o k ws set []
+net_table o k ws set = net_clauses Err o k ws set []
 
 abbrev pub net_done : ℕ → ℕ → Checked
-net_done o k = Nodes (o + k)
+net_done o k = Ok (o + k)
 
 unfoldable pub check_net : ℕ → ℕ → List ℕ → ℕ → Checked
 check_net o k ws set = call (net_table o k ws set) (net_done o k)
 
 -- The check of a plain list.
 abbrev pub plain_table : ℕ → ℕ → List ℕ → List (Clause Checked)
-plain_table o k ws = plain_clauses Refused o k ws []
+plain_table o k ws = plain_clauses Err o k ws []
 
 unfoldable pub check_plain : ℕ → ℕ → List ℕ → Checked
 check_plain o k ws = call (plain_table o k ws) (net_done o k)
 
 -- The sizes alone.
 unfoldable pub check_sizes : ℕ → ℕ → ℕ → Checked
-check_sizes o k count = call (size_clauses Refused o k count []) (net_done o k)
+check_sizes o k count = call (size_clauses Err o k count []) (net_done o k)
 
 -- Number 4 for a statement about x and y in a net of n nodes: x is no node, or y is no kind.
 abbrev pub bad_pair : ℕ → ℕ → ℕ → ℕ → Bool
@@ -87,5 +89,5 @@ refusal_reply BadSet = reply 15 0 0
 
 -- The reply of each answer of these checks: 0, to which this project adds the number of nodes, or the refusal's.
 abbrev pub checked_reply : Checked → Reply
-checked_reply (Nodes n) = reply 0 n 0
-checked_reply (Refused r) = refusal_reply r
+checked_reply (Ok n) = reply 0 n 0
+checked_reply (Err r) = refusal_reply r

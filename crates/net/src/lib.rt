@@ -9,7 +9,7 @@ ghost use Rattle.net.specs.Table.{illegal_at, illegal_plain, check_sizes, check_
 use net_word::{Cause, ORIGIN_LIMIT, cause_number, cause_of, is_legal, plain_cause};
 
 // The refusals that every operation passes on unchanged: numbers 1 to 5 and 15.
-#[derive(Drop)]
+#[derive(Clone, Copy)]
 pub enum Refusal {
     TooManyNodes,
     TooManyWords,
@@ -21,18 +21,11 @@ pub enum Refusal {
 
 // A reply.
 #[repr(C)]
-#[derive(Drop)]
+#[derive(Clone, Copy)]
 pub struct Reply {
     pub number: u32,
     pub first: u32,
     pub second: u32,
-}
-
-// What the check of a net answers: the number of its nodes, or a refusal.
-#[derive(Drop)]
-pub enum Checked {
-    Nodes(usize),
-    Refused(Refusal),
 }
 
 // The largest number of nodes, of words, and the largest set of origins.
@@ -60,61 +53,53 @@ pub fn refuse_plain(n: usize, index: u32, word: u32) -> Refusal
 pub fn first_illegal(top: u32, o: usize, n: usize, words: &[u32]) -> usize
     ensures { result ≡ passing (legal_from top o n) words.now }
 {
-    let mut i = 0;
-    while i < words.len() {
-        if !is_legal(top, o, n, words[i]) {
+    for (i, &word) in words.iter().enumerate() {
+        if !is_legal(top, o, n, word) {
             return i;
         }
-        i += 1;
     }
-    i
+    words.len()
 }
 
 // Numbers 1 and 2: how many nodes and words there are.
-fn check_sizes(o: u32, k: u32, count: usize) -> Checked
+fn check_sizes(o: u32, k: u32, count: usize) -> Result<usize, Refusal>
     ensures { result ≡ check_sizes o k count }
 {
     let n = o as usize + k as usize;
     if NODE_LIMIT < n {
-        return Checked::Refused(Refusal::TooManyNodes);
+        return Err(Refusal::TooManyNodes);
     }
     if WORD_LIMIT < count {
-        return Checked::Refused(Refusal::TooManyWords);
+        return Err(Refusal::TooManyWords);
     }
-    Checked::Nodes(n)
+    Ok(n)
 }
 
 // The check of a net read with a set of origins. All words are counted and tested, chosen or not.
-pub fn check_net(o: u32, k: u32, words: &[u32], set: u32) -> Checked
+pub fn check_net(o: u32, k: u32, words: &[u32], set: u32) -> Result<usize, Refusal>
     ensures { result ≡ check_net o k words.now set }
 {
-    let sizes = check_sizes(o, k, words.len());
-    let Checked::Nodes(n) = sizes else {
-        return sizes;
-    };
+    let n = check_sizes(o, k, words.len())?;
     if SET_LIMIT < set {
-        return Checked::Refused(Refusal::BadSet);
+        return Err(Refusal::BadSet);
     }
     let i = first_illegal(ORIGIN_LIMIT, o as usize, n, words);
     if i < words.len() {
-        return Checked::Refused(refuse_word(n, i as u32, words[i]));
+        return Err(refuse_word(n, i as u32, words[i]));
     }
-    Checked::Nodes(n)
+    Ok(n)
 }
 
 // The check of a list of plain words.
-pub fn check_plain(o: u32, k: u32, words: &[u32]) -> Checked
+pub fn check_plain(o: u32, k: u32, words: &[u32]) -> Result<usize, Refusal>
     ensures { result ≡ check_plain o k words.now }
 {
-    let sizes = check_sizes(o, k, words.len());
-    let Checked::Nodes(n) = sizes else {
-        return sizes;
-    };
+    let n = check_sizes(o, k, words.len())?;
     let i = first_illegal(0, o as usize, n, words);
     if i < words.len() {
-        return Checked::Refused(refuse_plain(n, i as u32, words[i]));
+        return Err(refuse_plain(n, i as u32, words[i]));
     }
-    Checked::Nodes(n)
+    Ok(n)
 }
 
 // Whether a statement about `x` and `y` is none over a net of `n` nodes: number 4.
@@ -147,9 +132,9 @@ pub fn reply_of(number: u32, first: u32, second: u32) -> Reply
     ensures { result ≡ reply number first second }
 {
     Reply {
-        number: number,
-        first: first,
-        second: second,
+        number,
+        first,
+        second,
     }
 }
 

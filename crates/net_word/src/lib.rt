@@ -7,7 +7,7 @@ ghost use Rattle.theory.specs.Origins.{origin_of, plain_of, origin_limit, choose
 ghost use Rattle.net_word.specs.Legal.{legal_from, plain_cause, cause_of, cause_number};
 
 // Why a word is illegal: its origin is above 3, or else its tail is outside the net, or else its head is no kind.
-#[derive(Drop)]
+#[derive(Clone, Copy)]
 pub enum Cause {
     Tail,
     Head,

@@ -3,10 +3,10 @@ use Prim.Native.Nat.{ℕ}
 use mathlib.Core.Path.{◌≡◌}
 use mathlib.Core.Bool.{true, false}
 use mathlib.Core.List.{List}
+use Rattle.std.specs.Prelude.{Ok, Err}
 use Rattle.net.specs.Clauses.{call}
-use Rattle.netfile.specs.Contents.{contents_of, no_bodies, bodies_of}
+use Rattle.netfile.specs.Contents.{malformed_at, contents_of, no_bodies, bodies_of}
 use Rattle.netfile.specs.Table.{read_from, malformed, wrong_place, questions_at, set_at, file_table, file_done}
-use Rattle.netfile.specs.declared.Contents.TheVariants.{Bodies, Malformed}
 use Rattle.netfile.specs.Places.{Says}
 use Rattle.netfile.proofs.Places.{ReadsAs, wrong_at, all_three, all_four, fault_says, right_three, right_four, reads_as}
 
@@ -16,7 +16,7 @@ module _ (s : List ℕ) where
   clause_9 {p} t =
       let applies : malformed s ≡ true = t _ _ _ in
       let place : wrong_place s ≡ p = t _ _ _ in
-      let contents : contents_of s ≡ Malformed p = t _ _ _ in
+      let contents : contents_of s ≡ Err (malformed_at p) = t _ _ _ in
       let bodies : bodies_of s ≡ no_bodies = t _ _ _ in
       rw (applies, place, contents, bodies)
 
@@ -26,7 +26,7 @@ module _ (s : List ℕ) where
       let applies : malformed s ≡ false = t _ _ _ in
       let questions : questions_at s ≡ c = t _ _ _ in
       let set : set_at s ≡ d = t _ _ _ in
-      let contents : contents_of s ≡ Bodies c d = t _ _ _ in
+      let contents : contents_of s ≡ Ok (c, d) = t _ _ _ in
       rw (applies, questions, set, contents)
 
   -- The file reader.

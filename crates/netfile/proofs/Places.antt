@@ -1,15 +1,14 @@
 -- Where a 9 is given and where not, as the entries of the contents read.
 use Prim.Native.Nat.{ℕ, zero, suc, ◌≤◌, ◌<◌}
-use mathlib.Core.Path.{◌≡◌, refl, sym, subst, ◌∙◌}
+use mathlib.Core.Path.{◌≡◌, refl, sym, ap, subst, ◌∙◌}
 use mathlib.Core.Logic.{◌↔◌, ◌⊎◌, inl, inr}
 use mathlib.Core.List.{List}
 use native.Mathlib.Omega.{arith}
 use lib.ListN.{length}
+use Rattle.std.specs.Prelude.{Ok, Err}
 use Rattle.netfile_numbers.specs.Bytes.{u32_at}
-use Rattle.netfile.specs.Contents.{contents_of}
+use Rattle.netfile.specs.Contents.{malformed_at, Contents, contents_reply, contents_of}
 use Rattle.netfile.specs.Places.{Three, Four, Missized, words_start, questions_start, set_start, FirstRight, SecondRight, ThirdRight, FourthRight, ThreeOrFour, Fault, RightThree, RightFour, Right, Says}
-use Rattle.netfile.specs.declared.Contents.{Contents}
-use Rattle.netfile.specs.declared.Contents.TheVariants.{Bodies, Malformed}
 use Rattle.netfile.proofs.Reading.{missized, first_shut, second_shut, third_shut, fourth_shut, all_open}
 use Rattle.netfile.proofs.Tests.{Read, either, open_entry, shut_entry, size, read_three, read_four, three_or_four, first, second, third, fourth}
 
@@ -103,51 +102,52 @@ module _ (s : List ℕ) where
 -- ── each place exactly when ──
 
 -- A place is no body.
-no_body : {A : Type 0} {place q d : ℕ} {r : Contents} → r ≡ Malformed place → r ≡ Bodies q d → A
-no_body e f = let z : ◌≡◌ {A = ℕ} 0 1 = cc in absurd (omega arith)
+no_body : {A : Type 0} {place q d : ℕ} {r : Contents} → r ≡ Err (malformed_at place) → r ≡ Ok (q, d) → A
+no_body e f = let z : ◌≡◌ {A = ℕ} 9 0 = ap (λ (c : Contents). (contents_reply c).number) (sym e ∙ f) in absurd (omega arith)
 
 -- One answer of the reader has one value.
-questions_same : {q d q' d' : ℕ} → Bodies q d ≡ Bodies q' d' → q ≡ q'
-questions_same e = cc
+module _ {q d q' d' : ℕ} (e : ◌≡◌ {A = Contents} (Ok (q, d)) (Ok (q', d'))) where
+  questions_same : q ≡ q'
+  questions_same = ap (λ (c : Contents). (contents_reply c).first) e
 
-set_same : {q d q' d' : ℕ} → Bodies q d ≡ Bodies q' d' → d ≡ d'
-set_same e = cc
+  set_same : d ≡ d'
+  set_same = ap (λ (c : Contents). (contents_reply c).second) e
 
-place_same : {p q : ℕ} → Malformed p ≡ Malformed q → p ≡ q
-place_same e = cc
+place_same : {p q : ℕ} → ◌≡◌ {A = Contents} (Err (malformed_at p)) (Err (malformed_at q)) → p ≡ q
+place_same e = ap (λ (c : Contents). (contents_reply c).first) e
 
 module _ (s : List ℕ) where
   -- A place is given exactly where something is wrong there.
-  pub places : (place : ℕ) → contents_of s ≡ Malformed place ↔ Fault s place
+  pub places : (place : ℕ) → contents_of s ≡ Err (malformed_at place) ↔ Fault s place
   places place = (λ e. at e (reads_as s), λ h. fault_says s place h _ _ _)
     where
-      at : contents_of s ≡ Malformed place → ReadsAs s → Fault s place
+      at : contents_of s ≡ Err (malformed_at place) → ReadsAs s → Fault s place
       at e (wrong_at p h) = subst (Fault s) (place_same (sym (fault_says s p h _ _ _) ∙ e)) h
       at e (all_three h) = no_body e (right_three s h _ _ _)
       at e (all_four h) = no_body e (right_four s h _ _ _)
 
   -- Place 3: the size.
-  pub place_3 : contents_of s ≡ Malformed 3 ↔ Missized s
+  pub place_3 : contents_of s ≡ Err (malformed_at 3) ↔ Missized s
   place_3 = places 3
 
   -- Place 0: the first entry.
-  pub place_0 : contents_of s ≡ Malformed 0 ↔ ThreeOrFour s (λ count. FirstRight count s → ⊥)
+  pub place_0 : contents_of s ≡ Err (malformed_at 0) ↔ ThreeOrFour s (λ count. FirstRight count s → ⊥)
   place_0 = places 0
 
   -- Place 1: the second entry, the first being right.
-  pub place_1 : contents_of s ≡ Malformed 1 ↔ ThreeOrFour s (λ count. FirstRight count s × (SecondRight count s → ⊥))
+  pub place_1 : contents_of s ≡ Err (malformed_at 1) ↔ ThreeOrFour s (λ count. FirstRight count s × (SecondRight count s → ⊥))
   place_1 = places 1
 
   -- Place 2: the third entry, those before it being right.
-  pub place_2 : contents_of s ≡ Malformed 2 ↔ ThreeOrFour s (λ count. FirstRight count s × (SecondRight count s × (ThirdRight count s → ⊥)))
+  pub place_2 : contents_of s ≡ Err (malformed_at 2) ↔ ThreeOrFour s (λ count. FirstRight count s × (SecondRight count s × (ThirdRight count s → ⊥)))
   place_2 = places 2
 
   -- Place 4: the fourth entry, the others being right.
-  pub place_4 : contents_of s ≡ Malformed 4 ↔ Four s × (FirstRight 4 s × (SecondRight 4 s × (ThirdRight 4 s × (FourthRight s → ⊥))))
+  pub place_4 : contents_of s ≡ Err (malformed_at 4) ↔ Four s × (FirstRight 4 s × (SecondRight 4 s × (ThirdRight 4 s × (FourthRight s → ⊥))))
   place_4 = places 4
 
   -- No other place is given.
-  pub no_other_place : (place : ℕ) → contents_of s ≡ Malformed place → place < 5
+  pub no_other_place : (place : ℕ) → contents_of s ≡ Err (malformed_at place) → place < 5
   no_other_place place e = at place ((places place).0 e)
     where
       at : (p : ℕ) → Fault s p → p < 5
@@ -159,28 +159,28 @@ module _ (s : List ℕ) where
       at (suc (suc (suc (suc (suc p))))) h = absurd h
 
   -- No place: all entries are right, and questions and set start where the bodies before them end.
-  pub no_place : (q d : ℕ) → contents_of s ≡ Bodies q d ↔ Right s q d
+  pub no_place : (q d : ℕ) → contents_of s ≡ Ok (q, d) ↔ Right s q d
   no_place q d = (λ e. at e (reads_as s), back)
     where
-      at : contents_of s ≡ Bodies q d → ReadsAs s → Right s q d
+      at : contents_of s ≡ Ok (q, d) → ReadsAs s → Right s q d
       at e (wrong_at p h) = no_body (fault_says s p h _ _ _) e
       at e (all_three h) = let f = sym e ∙ right_three s h _ _ _ in inl (h, (questions_same f, set_same f))
       at e (all_four h) = let f = sym e ∙ right_four s h _ _ _ in inr (h, (questions_same f, set_same f))
 
-      back : Right s q d → contents_of s ≡ Bodies q d
+      back : Right s q d → contents_of s ≡ Ok (q, d)
       back (inl (h, (f, g))) = rw (f, g) (right_three s h _ _ _)
       back (inr (h, (f, g))) = rw (f, g) (right_four s h _ _ _)
 
   -- A malformed file says its place, whatever is asked of it.
-  pub says_place : (place : ℕ) → contents_of s ≡ Malformed place → Says s (λ A wrong right. wrong place)
+  pub says_place : (place : ℕ) → contents_of s ≡ Err (malformed_at place) → Says s (λ A wrong right. wrong place)
   says_place place e = fault_says s place ((places place).0 e)
 
   -- ── four entries in a small file ──
 
   -- Below 32 bytes the contents do not fit,
-  pub four_below_32 : u32_at s 0 ≡ 32 → length s < 32 → contents_of s ≡ Malformed 3
+  pub four_below_32 : u32_at s 0 ≡ 32 → length s < 32 → contents_of s ≡ Err (malformed_at 3)
   four_below_32 e h = wrong_size s (inl (inr (e, h))) _ _ _
 
   -- and from 32 to 39 the first body does not.
-  pub four_below_40 : u32_at s 0 ≡ 32 → 32 ≤ length s → length s < 40 → contents_of s ≡ Malformed 0
+  pub four_below_40 : u32_at s 0 ≡ 32 → 32 ≤ length s → length s < 40 → contents_of s ≡ Err (malformed_at 0)
   four_below_40 e l h = (places 0).1 (inr ((e, (l, omega arith)), λ p. omega (arith, p.1)))

@@ -7,10 +7,9 @@ use native.Mathlib.Omega.{arith}
 use borrow.Author.Tests.{ltb-false, lt-ltb, le-ltb}
 use lib.Dec.{eqb, ltb}
 use lib.ListN.{length}
+use Rattle.std.specs.Prelude.{Option, Some, None}
 use Rattle.theory_laws.proofs.Booleans.{or_none_left}
 use Rattle.netfile_entry.specs.Entries.{entries, contents_size, entry_at, fourth_at}
-use Rattle.netfile_entry.specs.declared.Entry.{Entry}
-use Rattle.netfile_entry.specs.declared.Entry.TheVariants.{Open, Shut}
 use Rattle.netfile_entry.proofs.Opening.{entries_bounded}
 use Rattle.netfile.specs.Contents.{file_limit, wrong_size, read_on, with_entry, entries_of}
 use Rattle.netfile.specs.Places.{Says}
@@ -70,24 +69,24 @@ module _ (s : List ℕ) where
             ≡ with_entry wrong s 0 (contents_size (entries s)) (λ a e.
             with_entry wrong s 1 e (λ b f.
             with_entry wrong s 2 f (λ c g.
-            read_on wrong 3 (λ d h. right a e b f c g d h) (cond q (Open g g) (entry_at (entries s) s 3 g)))))
+            read_on wrong 3 (λ d h. right a e b f c g d h) (cond q (Some (g, g)) (entry_at (entries s) s 3 g)))))
         at true = refl
         at false = refl
 
-    pub first_shut : (r : Entry) → r ≡ entry_at count s 0 (contents_size count) → r ≡ Shut → Says s (λ A wrong right. wrong 0)
+    pub first_shut : (r : Option (ℕ × ℕ)) → r ≡ entry_at count s 0 (contents_size count) → r ≡ None → Says s (λ A wrong right. wrong 0)
     first_shut r e f A wrong right = rw (by_entries A wrong right, ← e, f)
 
-    module _ (r : Entry) (a d : ℕ) (e : r ≡ entry_at count s 0 (contents_size count)) (f : r ≡ Open a d) where
-      pub second_shut : (t : Entry) → t ≡ entry_at count s 1 d → t ≡ Shut → Says s (λ A wrong right. wrong 1)
+    module _ (r : Option (ℕ × ℕ)) (a d : ℕ) (e : r ≡ entry_at count s 0 (contents_size count)) (f : r ≡ Some (a, d)) where
+      pub second_shut : (t : Option (ℕ × ℕ)) → t ≡ entry_at count s 1 d → t ≡ None → Says s (λ A wrong right. wrong 1)
       second_shut t g h A wrong right = rw (by_entries A wrong right, ← e, f, ← g, h)
 
-      module _ (t : Entry) (a' d' : ℕ) (g : t ≡ entry_at count s 1 d) (h : t ≡ Open a' d') where
-        pub third_shut : (u : Entry) → u ≡ entry_at count s 2 d' → u ≡ Shut → Says s (λ A wrong right. wrong 2)
+      module _ (t : Option (ℕ × ℕ)) (a' d' : ℕ) (g : t ≡ entry_at count s 1 d) (h : t ≡ Some (a', d')) where
+        pub third_shut : (u : Option (ℕ × ℕ)) → u ≡ entry_at count s 2 d' → u ≡ None → Says s (λ A wrong right. wrong 2)
         third_shut u k l A wrong right = rw (by_entries A wrong right, ← e, f, ← g, h, ← k, l)
 
-        module _ (u : Entry) (a'' d'' : ℕ) (k : u ≡ entry_at count s 2 d') (l : u ≡ Open a'' d'') where
-          pub fourth_shut : (v : Entry) → v ≡ fourth_at count s d'' → v ≡ Shut → Says s (λ A wrong right. wrong 4)
+        module _ (u : Option (ℕ × ℕ)) (a'' d'' : ℕ) (k : u ≡ entry_at count s 2 d') (l : u ≡ Some (a'', d'')) where
+          pub fourth_shut : (v : Option (ℕ × ℕ)) → v ≡ fourth_at count s d'' → v ≡ None → Says s (λ A wrong right. wrong 4)
           fourth_shut v i j A wrong right = rw (by_entries A wrong right, ← e, f, ← g, h, ← k, l, ← i, j)
 
-          pub all_open : (v : Entry) (a''' d''' : ℕ) → v ≡ fourth_at count s d'' → v ≡ Open a''' d''' → Says s (λ A wrong right. right a d a' d' a'' d'' a''' d''')
+          pub all_open : (v : Option (ℕ × ℕ)) (a''' d''' : ℕ) → v ≡ fourth_at count s d'' → v ≡ Some (a''', d''') → Says s (λ A wrong right. right a d a' d' a'' d'' a''' d''')
           all_open v a''' d''' i j A wrong right = rw (by_entries A wrong right, ← e, f, ← g, h, ← k, l, ← i, j)

@@ -6,11 +6,11 @@ use mathlib.Core.List.{List, [], ◌∷◌}
 use native.Mathlib.Omega.{arith}
 use lib.ListN.{length, take, drop, length-drop, drop_of_length-le}
 use lib.Seq.{take_all}
+use Rattle.std.specs.Prelude.{Ok, Err}
 use Rattle.netfile_numbers.specs.Bytes.{u32_at}
 use Rattle.netfile_entry.specs.Entries.{entries, contents_size}
 use Rattle.netfile_entry.proofs.Opening.{three_entries, four_entries}
-use Rattle.netfile.specs.Contents.{file_limit, contents_of, stretch, bodies_of}
-use Rattle.netfile.specs.declared.Contents.TheVariants.{Bodies, Malformed}
+use Rattle.netfile.specs.Contents.{malformed_at, file_limit, contents_of, stretch, bodies_of}
 use Rattle.netfile.specs.Places.{Says, SetStands, Stretches, FirstRight, SecondRight, ThirdRight, Right, words_start, questions_start, set_start}
 use Rattle.netfile.proofs.Places.{right_three, right_four, no_place, says_place}
 
@@ -33,7 +33,7 @@ module _ (s : List ℕ) (q d : ℕ) where
   }
 
   -- Where a file is not malformed its bodies stand one after another.
-  pub stretches : contents_of s ≡ Bodies q d → Stretches s q d
+  pub stretches : contents_of s ≡ Ok (q, d) → Stretches s q d
   stretches h = at ((no_place s q d).0 h)
     where
       at : Right s q d → Stretches s q d
@@ -50,7 +50,7 @@ rest : (s : List ℕ) (q : ℕ) → stretch s q (length s) ≡ drop q s
 rest s q = take_all (length s - q) (drop q s) (simp length-drop (omega arith))
 
 -- The bodies of three entries in plain numbers: bytes 24 to 31, those from 32 to where the questions start, those from there on, and no set.
-pub plain_three : (s : List ℕ) (q d : ℕ) → contents_of s ≡ Bodies q d → (u32_at s 0 ≡ 32 → ⊥)
+pub plain_three : (s : List ℕ) (q d : ℕ) → contents_of s ≡ Ok (q, d) → (u32_at s 0 ≡ 32 → ⊥)
     → bodies_of s ≡ take 8 (drop 24 s) ∷ take (q - 32) (drop 32 s) ∷ drop q s ∷ [] ∷ []
 plain_three s q d h n =
     let z = stretches s q d h in
@@ -65,7 +65,7 @@ plain_three s q d h n =
     at (inr f) = absurd (n f.0)
 
 -- Of four: bytes 32 to 39, those from 40 to where the questions start, those from there to where the set starts, and the last four.
-pub plain_four : (s : List ℕ) (q d : ℕ) → contents_of s ≡ Bodies q d → u32_at s 0 ≡ 32
+pub plain_four : (s : List ℕ) (q d : ℕ) → contents_of s ≡ Ok (q, d) → u32_at s 0 ≡ 32
     → bodies_of s ≡ take 8 (drop 32 s) ∷ take (q - 40) (drop 40 s) ∷ take (d - q) (drop q s) ∷ drop d s ∷ []
 plain_four s q d h e =
     let z = stretches s q d h in
@@ -74,5 +74,5 @@ plain_four s q d h e =
     z.says _ _ _ ∙ rw (← k, w, rest s d)
 
 -- A malformed file has four empty ones.
-pub plain_none : (s : List ℕ) (place : ℕ) → contents_of s ≡ Malformed place → bodies_of s ≡ [] ∷ [] ∷ [] ∷ [] ∷ []
+pub plain_none : (s : List ℕ) (place : ℕ) → contents_of s ≡ Err (malformed_at place) → bodies_of s ≡ [] ∷ [] ∷ [] ∷ [] ∷ []
 plain_none s place h = says_place s place h _ _ _

@@ -9,12 +9,12 @@ use native.Mathlib.Decide.{dec_lt, ℕ_discrete}
 use borrow.Author.Tests.{eq-eqb, ne_eqb}
 use lib.ListN.{length}
 use lib.Dec.{eqb, ltb}
+use Rattle.std.specs.Prelude.{Some, None}
 use Rattle.theory_laws.proofs.Booleans.{contradiction, not_so}
 use Rattle.theory_laws.specs.Deciding.{Decides}
 use Rattle.theory_laws.proofs.Deciding.{decides_equal, decides_below, decides_most, decides_both, decides_either, decides_same}
 use Rattle.netfile_numbers.specs.Bytes.{u32_at}
 use Rattle.netfile_entry.specs.Entries.{entries, contents_size, right_end, entry_opens, entry_at}
-use Rattle.netfile_entry.specs.declared.Entry.TheVariants.{Open, Shut}
 use Rattle.netfile_entry.proofs.Opening.{three_entries, four_entries, entries_bounded}
 use Rattle.netfile.specs.Contents.{wrong_size}
 use Rattle.netfile.specs.Places.{Three, Four, Missized, words_start, questions_start, set_start, set_end, FirstRight, SecondRight, ThirdRight, FourthRight}
@@ -26,11 +26,11 @@ either false t = inr (λ h. contradiction (t.1 h))
 
 -- An entry is open where its test passes, and shut where it does not.
 module _ (count : ℕ) (s : List ℕ) (n from : ℕ) {P : Type 0} (t : Decides (entry_opens count s n from) P) where
-  pub open_entry : P → entry_at count s n from ≡ Open from (from + u32_at s (n * 8 + 4))
+  pub open_entry : P → entry_at count s n from ≡ Some (from, from + u32_at s (n * 8 + 4))
   unfolding entry_at
   open_entry h = rw (t.1 h)
 
-  pub shut_entry : (P → ⊥) → entry_at count s n from ≡ Shut
+  pub shut_entry : (P → ⊥) → entry_at count s n from ≡ None
   unfolding entry_at
   shut_entry h = rw (not_so (entry_opens count s n from) (λ e. h (t.0 e)))
 

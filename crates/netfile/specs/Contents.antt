@@ -1,25 +1,30 @@
 -- The net file, read entry by entry: its contents, the stretches that its bodies are, and the replies of the reader and of an entry.
-use Rattle.std.specs.Prelude.{ℕ, ◌-◌, Bool, cond, ◌||◌, List, [], ◌∷◌, eqb, ltb, length, take, drop}
+use Rattle.std.specs.Prelude.{ℕ, ◌-◌, Bool, cond, ◌||◌, List, [], ◌∷◌, eqb, ltb, length, take, drop, Option, Some, None, Result, Ok, Err}
 use Rattle.net.specs.Table.{Reply, reply}
 use Rattle.netfile_entry.specs.Entries.{entries, contents_size, entry_at}
-use Rattle.netfile_entry.specs.declared.Entry.{Entry}
-use Rattle.netfile_entry.specs.declared.Entry.TheVariants.{Open, Shut}
-use Rattle.netfile.specs.declared.Contents.{Contents}
-use Rattle.netfile.specs.declared.Contents.TheVariants.{Bodies, Malformed}
+use Rattle.netfile.specs.declared.Malformed.{Malformed}
 
 -- The place of entry n where it cannot be opened: its own number, but of the fourth 4, since 3 is the size.
 abbrev pub place_of : ℕ → ℕ
 place_of n = cond (eqb n 3) 4 n
 
+-- What a file is refused with, by its place.
+abbrev pub malformed_at : ℕ → Malformed
+malformed_at place = record { place = place }
+
+-- What the reader answers: where the questions and the set start, or the place of a 9.
+abbrev pub Contents : Type 0
+Contents = Result (ℕ × ℕ) Malformed
+
 -- The paper's number for each answer of the reader and for entry n, with its values: with 9 the place; with 0, where the paper names none, where
 -- the questions and the set start, and an entry's start and end.
 abbrev pub contents_reply : Contents → Reply
-contents_reply (Bodies q d) = reply 0 q d
-contents_reply (Malformed place) = reply 9 place 0
+contents_reply (Ok (q, d)) = reply 0 q d
+contents_reply (Err malformed) = reply 9 malformed.place 0
 
-abbrev pub entry_reply : ℕ → Entry → Reply
-entry_reply n (Open a e) = reply 0 a e
-entry_reply n Shut = reply 9 (place_of n) 0
+abbrev pub entry_reply : ℕ → Option (ℕ × ℕ) → Reply
+entry_reply n (Some (a, e)) = reply 0 a e
+entry_reply n None = reply 9 (place_of n) 0
 
 -- The largest file.
 abbrev pub file_limit : ℕ
@@ -30,9 +35,9 @@ abbrev pub wrong_size : List ℕ → Bool
 wrong_size s = ltb (length s) (contents_size (entries s)) || ltb file_limit (length s)
 
 -- After entry n: `next` gets the start and the end of its body. One that cannot be opened ends the reading, and `wrong` gets the place in its reply.
-abbrev pub read_on : {A : Type 0} → (ℕ → A) → ℕ → (ℕ → ℕ → A) → Entry → A
-read_on wrong n next (Open a e) = next a e
-read_on wrong n next Shut = wrong (entry_reply n Shut).first
+abbrev pub read_on : {A : Type 0} → (ℕ → A) → ℕ → (ℕ → ℕ → A) → Option (ℕ × ℕ) → A
+read_on wrong n next (Some (a, e)) = next a e
+read_on wrong n next None = wrong (entry_reply n None).first
 
 -- The same of a file whose body n has to start at `from`.
 abbrev pub with_entry : {A : Type 0} → (ℕ → A) → List ℕ → ℕ → ℕ → (ℕ → ℕ → A) → A
@@ -52,7 +57,11 @@ entries_of wrong right s =
 
 -- The contents of a file: where the questions start and where the set starts, or the place of a 9.
 abbrev pub contents_of : List ℕ → Contents
-contents_of s = entries_of Malformed (λ a e b f c g d h. Bodies c d) s
+contents_of s = entries_of (λ place. Err (malformed_at place)) (λ a e b f c g d h. Ok (c, d)) s
+
+-- Its entries: the start and the end of each body, or the place of a 9.
+abbrev pub told_entries : List ℕ → Result (List (ℕ × ℕ)) Malformed
+told_entries s = entries_of (λ place. Err (malformed_at place)) (λ a e b f c g d h. Ok ((a, e) ∷ (b, f) ∷ (c, g) ∷ (d, h) ∷ [])) s
 
 -- The stretch of a file from a start to an end.
 abbrev pub stretch : List ℕ → ℕ → ℕ → List ℕ

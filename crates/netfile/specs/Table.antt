@@ -1,9 +1,7 @@
 -- The reader's number table: clause 9, and what is done where it does not apply.
-use Rattle.std.specs.Prelude.{ℕ, Bool, true, false, List, [], ◌∷◌}
+use Rattle.std.specs.Prelude.{ℕ, Bool, true, false, List, [], ◌∷◌, Ok, Err}
 use Rattle.net.specs.Clauses.{Clause, clause}
-use Rattle.netfile.specs.Contents.{entries_of, contents_of, no_bodies, bodies_of}
-use Rattle.netfile.specs.declared.Contents.{Contents}
-use Rattle.netfile.specs.declared.Contents.TheVariants.{Bodies, Malformed}
+use Rattle.netfile.specs.Contents.{malformed_at, Contents, entries_of, contents_of, no_bodies, bodies_of}
 
 -- What the reader gives: the contents and the bodies.
 pub record FileOutcome : Type 0 where
@@ -31,7 +29,7 @@ abbrev pub set_at : List ℕ → ℕ
 set_at s = entries_of (λ place. 0) (λ a e b f c g d h. d) s
 
 abbrev pub file_table : List ℕ → List (Clause FileOutcome)
-file_table s = clause 9 (malformed s) (file_outcome (Malformed (wrong_place s)) no_bodies) ∷ []
+file_table s = clause 9 (malformed s) (file_outcome (Err (malformed_at (wrong_place s))) no_bodies) ∷ []
 
 abbrev pub file_done : List ℕ → FileOutcome
-file_done s = file_outcome (Bodies (questions_at s) (set_at s)) (bodies_of s)
+file_done s = file_outcome (Ok (questions_at s, set_at s)) (bodies_of s)

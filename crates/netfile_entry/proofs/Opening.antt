@@ -4,13 +4,14 @@ use mathlib.Core.Path.{◌≡◌, refl}
 use mathlib.Core.Bool.{Bool, true, false, cond}
 use mathlib.Core.List.{List}
 use native.Mathlib.Omega.{arith}
+use Rattle.std.specs.Prelude.{Option, Some, None}
+use Rattle.std.proofs.lemmas.Option.{none-some, some_pair_parts}
 use borrow.Author.Tests.{eq-eqb, ne_eqb, eqb-true, leb-true}
 use lib.ListN.{length}
 use lib.Dec.{eqb, leb}
 use Rattle.theory_laws.proofs.Booleans.{and_right}
 use Rattle.netfile_numbers.specs.Bytes.{u32_at}
 use Rattle.netfile_entry.specs.Entries.{entries, right_length, right_end, entry_opens, entry_at, fourth_at}
-use Rattle.netfile_entry.specs.declared.Entry.TheVariants.{Open, Shut}
 
 -- ── the number of entries ──
 
@@ -56,28 +57,28 @@ module _ (count n end size : ℕ) where
 
 module _ (count : ℕ) (s : List ℕ) (n from start size : ℕ) (e : start ≡ u32_at s (n * 8)) (f : size ≡ u32_at s (n * 8 + 4)) where
   -- An entry whose start is wrong cannot be opened,
-  pub wrong_start : (start ≡ from → ⊥) → Shut ≡ entry_at count s n from
+  pub wrong_start : (start ≡ from → ⊥) → None ≡ entry_at count s n from
   unfolding entry_at
   wrong_start h = simp (← e, ne_eqb _ _ h)
 
   -- nor can one whose length is wrong,
-  pub wrong_length : start ≡ from → right_length n size ≡ false → Shut ≡ entry_at count s n from
+  pub wrong_length : start ≡ from → right_length n size ≡ false → None ≡ entry_at count s n from
   unfolding entry_at
   wrong_length g h = simp (← e, ← f, eq-eqb _ _ g, h)
 
   -- nor one whose end is wrong.
-  pub wrong_end : start ≡ from → right_length n size ≡ true → right_end count n (from + size) (length s) ≡ false → Shut ≡ entry_at count s n from
+  pub wrong_end : start ≡ from → right_length n size ≡ true → right_end count n (from + size) (length s) ≡ false → None ≡ entry_at count s n from
   unfolding entry_at
   wrong_end g h k = simp (← e, ← f, eq-eqb _ _ g, h, k)
 
   -- Any other is open from its start to its end.
-  pub opened : start ≡ from → right_length n size ≡ true → right_end count n (from + size) (length s) ≡ true → Open from (from + size) ≡ entry_at count s n from
+  pub opened : start ≡ from → right_length n size ≡ true → right_end count n (from + size) (length s) ≡ true → Some (from, from + size) ≡ entry_at count s n from
   unfolding entry_at
   opened g h k = simp (← e, ← f, eq-eqb _ _ g, h, k)
 
 -- The fourth entry: an empty one where there are three, and otherwise what the contents say.
 module _ (count : ℕ) (s : List ℕ) (from : ℕ) where
-  pub no_fourth : count ≡ 3 → Open from from ≡ fourth_at count s from
+  pub no_fourth : count ≡ 3 → Some (from, from) ≡ fourth_at count s from
   no_fourth e = rw (eq-eqb count 3 e)
 
   pub a_fourth : (count ≡ 3 → ⊥) → entry_at count s 3 from ≡ fourth_at count s from
@@ -98,7 +99,7 @@ abbrev pub InFile : List ℕ → ℕ → ℕ → Type 0
 InFile s a e = (a ≤ e) × (e ≤ length s)
 
 -- The stretch of an open entry does,
-pub open_inside : (count : ℕ) (s : List ℕ) (n from : ℕ) {a e : ℕ} → entry_at count s n from ≡ Open a e → InFile s a e
+pub open_inside : (count : ℕ) (s : List ℕ) (n from : ℕ) {a e : ℕ} → entry_at count s n from ≡ Some (a, e) → InFile s a e
 unfolding entry_at
 open_inside count s n from {a} {e} h = at (entry_opens count s n from) (λ t. and_right sized ends (and_right (eqb (u32_at s (n * 8)) from) _ t)) h
   where
@@ -108,21 +109,19 @@ open_inside count s n from {a} {e} h = at (entry_opens count s n from) (λ t. an
     ends : Bool
     ends = right_end count n (from + u32_at s (n * 8 + 4)) (length s)
 
-    at : (q : Bool) → (q ≡ true → ends ≡ true) → cond q (Open from (from + u32_at s (n * 8 + 4))) Shut ≡ Open a e → InFile s a e
+    at : (q : Bool) → (q ≡ true → ends ≡ true) → cond {A = Option (ℕ × ℕ)} q (Some (from, from + u32_at s (n * 8 + 4))) None ≡ Some (a, e) → InFile s a e
     at true f h =
-        let p : from ≡ a = cc in
-        let r : from + u32_at s (n * 8 + 4) ≡ e = cc in
+        let (p, r) = some_pair_parts _ _ _ _ h in
         let i : from + u32_at s (n * 8 + 4) ≤ length s = right_inside count n (from + u32_at s (n * 8 + 4)) (length s) (f refl) in
         (omega arith, omega arith)
-    at false f h = let z : ◌≡◌ {A = ℕ} 0 1 = cc in absurd (omega arith)
+    at false f h = absurd (none-some _ h)
 
 -- and that of the fourth, which starts where the third ends.
-pub fourth_inside : (count : ℕ) (s : List ℕ) (from : ℕ) {a e : ℕ} → from ≤ length s → fourth_at count s from ≡ Open a e → InFile s a e
+pub fourth_inside : (count : ℕ) (s : List ℕ) (from : ℕ) {a e : ℕ} → from ≤ length s → fourth_at count s from ≡ Some (a, e) → InFile s a e
 fourth_inside count s from {a} {e} i h = at (eqb count 3) h
   where
-    at : (q : Bool) → cond q (Open from from) (entry_at count s 3 from) ≡ Open a e → InFile s a e
+    at : (q : Bool) → cond q (Some (from, from)) (entry_at count s 3 from) ≡ Some (a, e) → InFile s a e
     at true h =
-        let p : from ≡ a = cc in
-        let r : from ≡ e = cc in
+        let (p, r) = some_pair_parts _ _ _ _ h in
         (omega arith, omega arith)
     at false h = open_inside count s 3 from h

@@ -1,8 +1,6 @@
 -- The entries of a net file's contents: how many there are, where a body has to start, how long it may be, and where it may end.
-use Rattle.std.specs.Prelude.{ℕ, ◌+◌, ◌*◌, ◌%◌, Bool, cond, ◌&&◌, List, leb, eqb, length}
+use Rattle.std.specs.Prelude.{ℕ, ◌+◌, ◌*◌, ◌%◌, Bool, cond, ◌&&◌, List, leb, eqb, length, Option, Some, None}
 use Rattle.netfile_numbers.specs.Bytes.{u32_at}
-use Rattle.netfile_entry.specs.declared.Entry.{Entry}
-use Rattle.netfile_entry.specs.declared.Entry.TheVariants.{Open, Shut}
 
 -- The number of entries: a first start of 32 means four, anything else three.
 unfoldable pub entries : List ℕ → ℕ
@@ -25,9 +23,9 @@ abbrev pub entry_opens : ℕ → List ℕ → ℕ → ℕ → Bool
 entry_opens count s n from = eqb (u32_at s (n * 8)) from && (right_length n (u32_at s (n * 8 + 4)) && right_end count n (from + u32_at s (n * 8 + 4)) (length s))
 
 -- What it says: the body's start and end.
-unfoldable pub entry_at : ℕ → List ℕ → ℕ → ℕ → Entry
-entry_at count s n from = cond (entry_opens count s n from) (Open from (from + u32_at s (n * 8 + 4))) Shut
+unfoldable pub entry_at : ℕ → List ℕ → ℕ → ℕ → Option (ℕ × ℕ)
+entry_at count s n from = cond (entry_opens count s n from) (Some (from, from + u32_at s (n * 8 + 4))) None
 
 -- The fourth entry. Where there are three, an empty stretch stands for it, at the end of the third body.
-abbrev pub fourth_at : ℕ → List ℕ → ℕ → Entry
-fourth_at count s from = cond (eqb count 3) (Open from from) (entry_at count s 3 from)
+abbrev pub fourth_at : ℕ → List ℕ → ℕ → Option (ℕ × ℕ)
+fourth_at count s from = cond (eqb count 3) (Some (from, from)) (entry_at count s 3 from)

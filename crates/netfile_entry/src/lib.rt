@@ -6,13 +6,6 @@ ghost use Rattle.netfile_entry.specs.Entries.{entries, contents_size, right_leng
 
 use netfile_numbers::u32_at;
 
-// An entry of the contents: the start and the end of its body, or that it cannot be opened.
-#[derive(Drop)]
-pub enum Entry {
-    Open(usize, usize),
-    Shut,
-}
-
 // How many entries the contents have, by the first start.
 pub fn entry_count(file: &[u8]) -> usize
     requires { 4 ≤ length file.now }
@@ -46,32 +39,32 @@ fn right_end(count: usize, n: usize, end: usize, size: usize) -> bool
     }
 }
 
-// Entry `n` of `count`, whose body has to start at `from`. The end is added wider than the four bytes of its parts.
-pub fn open_entry(count: usize, file: &[u8], n: usize, from: usize) -> Entry
+// Entry `n` of `count`, whose body has to start at `from`: the start and the end of its body, none where it cannot be opened. The end is added wider than the four bytes of its parts.
+pub fn open_entry(count: usize, file: &[u8], n: usize, from: usize) -> Option<(usize, usize)>
     requires { (n < count) × (count < 5) × (contents_size count ≤ length file.now) }
     ensures { result ≡ entry_at count file.now n from }
 {
     let start = u32_at(file, n * 8) as usize;
     let size = u32_at(file, n * 8 + 4) as usize;
     if start != from {
-        return Entry::Shut;
+        return None;
     }
     if !right_length(n, size) {
-        return Entry::Shut;
+        return None;
     }
     if !right_end(count, n, from + size, file.len()) {
-        return Entry::Shut;
+        return None;
     }
-    Entry::Open(from, from + size)
+    Some((from, from + size))
 }
 
 // The fourth entry of `count`, whose body has to start at `from`; an empty one there where `count` is three.
-pub fn open_fourth(count: usize, file: &[u8], from: usize) -> Entry
+pub fn open_fourth(count: usize, file: &[u8], from: usize) -> Option<(usize, usize)>
     requires { (2 < count) × (count < 5) × (contents_size count ≤ length file.now) }
     ensures { result ≡ fourth_at count file.now from }
 {
     if count == 3 {
-        return Entry::Open(from, from);
+        return Some((from, from));
     }
     open_entry(count, file, 3, from)
 }

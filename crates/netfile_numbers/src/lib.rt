@@ -25,9 +25,7 @@ pub fn read_words(body: &[u8], words: &mut [u32])
     requires { length body.now / 4 ≤ length words.old }
     ensures { words.new ≡ u32s (length body.now / 4) body.now ++ drop (length body.now / 4) words.old }
 {
-    let mut i: usize = 0;
-    while i < body.len() / 4 {
-        words[i] = u32_at(body, i * 4);
-        i += 1;
+    for (i, number) in body.chunks_exact(4).enumerate() {
+        words[i] = u32_at(number, 0);
     }
 }

@@ -1,4 +1,6 @@
 -- What a call that was not refused was: over a net, from a node, and with the marks and the count of its scan.
+use Rattle.scan.specs.declared.ScanError.TheVariants as answer
+use Rattle.std.specs.Prelude.{Err, Ok}
 use Prim.Native.Nat.{ℕ, ◌+◌, ◌<◌}
 use mathlib.Core.Path.{◌≡◌, sym, ap, ◌∙◌}
 use mathlib.Core.Bool.{Bool, true, false}
@@ -14,18 +16,25 @@ use Rattle.theory.proofs.machine.Budgets.{spent_marks}
 use Rattle.theory.proofs.machine.Bounds.{scan_long}
 use Rattle.net.proofs.Good.{good_pair, good_kind}
 use Rattle.scan.specs.Table.{ScanOutcome, scanned, scan_reply}
-use Rattle.scan.specs.declared.Scanned.{Scanned}
-use Rattle.scan.specs.declared.Scanned.TheVariants as answer
+use Rattle.scan.specs.Table.{Scanned}
 use Rattle.question.specs.Table.{QuestionOutcome, questioned, answer_at, asked_reply}
 use Rattle.question.specs.declared.Answer.{Answer}
-use Rattle.question.specs.declared.Asked.{Asked}
-use Rattle.question.specs.declared.Asked.TheVariants as asked
+use Rattle.question.specs.Table.{Asked}
 use Rattle.promises.proofs.Demand1.{scan_obeys, question_obeys}
 use Rattle.promises.proofs.Tests.{past_checks, chosen_of}
 
 -- The marks of a node are not moved by what stands behind the marks of all nodes.
 front : (m past : List ℕ) (n v : ℕ) → length m ≡ n → v < n → get_or (m ++ past) v 0 ≡ get_or m v 0
 front m past n v e h = get_or-append m past 0 v (omega arith)
+
+-- The word and the count of an answer; of a refusal the word that is given.
+abbrev pub word_in : Answer → Asked → Answer
+word_in b (Ok (a, count)) = a
+word_in b (Err r) = b
+
+abbrev count_in : Asked → ℕ
+count_in (Ok (a, count)) = count
+count_in (Err r) = 0
 
 module _ (o k : ℕ) (ws : List ℕ) (set : ℕ) where
   module _ (x budget : ℕ) (m : List ℕ) (count : ℕ) where
@@ -38,7 +47,7 @@ module _ (o k : ℕ) (ws : List ℕ) (set : ℕ) where
       pub left : (v : ℕ) → v < o + k → get_or (scanned o k ws set x budget m).marks v 0 ≡ get_or (scan (o + k) (chosen set ws) x budget).marks v 0
 
     -- One that gave a count and is done.
-    pub scan_ended : (scanned o k ws set x budget m).answer ≡ answer.Done count → ScanRan true
+    pub scan_ended : (scanned o k ws set x budget m).answer ≡ Ok count → ScanRan true
     scan_ended e =
         let d = ((scan_obeys o k ws set x budget m).exactly 0).0 (ap (λ (r : Scanned). (scan_reply r).number) e) in
         let l = (scan_obeys o k ws set x budget m).leaves 0 d in
@@ -55,7 +64,7 @@ module _ (o k : ℕ) (ws : List ℕ) (set : ℕ) where
         }
 
     -- One whose budget was spent.
-    pub scan_was_spent : (scanned o k ws set x budget m).answer ≡ answer.Spent count → ScanRan false
+    pub scan_was_spent : (scanned o k ws set x budget m).answer ≡ Err (answer.Spent count) → ScanRan false
     scan_was_spent e =
         let d = ((scan_obeys o k ws set x budget m).exactly 6).0 (ap (λ (r : Scanned). (scan_reply r).number) e) in
         let l = (scan_obeys o k ws set x budget m).leaves 6 d in
@@ -82,17 +91,17 @@ module _ (o k : ℕ) (ws : List ℕ) (set : ℕ) where
     pub word : answer_at (get_or (full_scan (o + k) (chosen set ws) x).marks y 0) ≡ a
     pub counted : (full_scan (o + k) (chosen set ws) x).count ≡ count
 
-  pub question_answered : (x y : ℕ) (m : List ℕ) (a : Answer) (count : ℕ) → (questioned o k ws set x y m).answer ≡ asked.Done a count → Answered x y a count
+  pub question_answered : (x y : ℕ) (m : List ℕ) (a : Answer) (count : ℕ) → (questioned o k ws set x y m).answer ≡ Ok (a, count) → Answered x y a count
   question_answered x y m a count e =
       let d = ((question_obeys o k ws set x y m).exactly 0).0 (ap (λ (r : Asked). (asked_reply r).number) e) in
       let l = (question_obeys o k ws set x y m).leaves 0 d in
-      let q : asked.Done (answer_at (get_or (full_scan (o + k) (chosen set ws) x).marks y 0)) (full_scan (o + k) (chosen set ws) x).count ≡ asked.Done a count =
+      let q : Ok (answer_at (get_or (full_scan (o + k) (chosen set ws) x).marks y 0), (full_scan (o + k) (chosen set ws) x).count) ≡ Ok (a, count) =
       sym (ap (λ (r : QuestionOutcome). r.answer) l) ∙ e in
       let good = (good_pair o (o + k) x y).0 d.1.1.1.1.0 in
       record {
         net = chosen_of o k ws set ((past_checks o k ws set).0 (d.0, d.1.0, d.1.1.0, d.1.1.1.0));
         node = good.node;
         kind = good_kind good;
-        word = cc;
-        counted = cc;
+        word = ap (word_in a) q;
+        counted = ap count_in q;
       }

@@ -1,4 +1,5 @@
 -- Our engine keeps what is promised of a screenful of questions.
+use Rattle.std.specs.Prelude.{Err, Ok}
 use Prim.Native.Nat.{ℕ, zero, suc, ◌+◌, ◌≤◌, ◌<◌}
 use mathlib.Core.Path.{◌≡◌, refl, sym, ap, ◌∙◌}
 use mathlib.Core.Bool.{Bool, true, false, cond}
@@ -23,12 +24,10 @@ use Rattle.net.proofs.OnNet.{gone_on}
 use Rattle.question.specs.Table.{QuestionOutcome, question_outcome, question_clauses, question_done, questioned, answer_at, answer_number}
 use Rattle.question.specs.declared.Answer.{Answer}
 use Rattle.question.specs.declared.Answer.TheVariants.{None, Yes, No, Both}
-use Rattle.question.specs.declared.Asked.TheVariants as asked
 use Rattle.question.proofs.Bytes.{answer_low}
 use Rattle.questions.specs.Pairs.{pairs_in, subject_at, kind_at, GoodPairs}
 use Rattle.questions.specs.Table.{QuestionsOutcome, asked_byte, answer_byte, marks_after, answers_from, marks_from, asked_all_reply, questions_done, questioned_all}
-use Rattle.questions.specs.declared.AskedAll.{AskedAll}
-use Rattle.questions.specs.declared.AskedAll.TheVariants.{Done}
+use Rattle.questions.specs.Table.{AskedAll}
 use Rattle.questions.proofs.Pairs.{single, answers_long}
 use Rattle.questions.proofs.Last.{byte_at, marks_last, marks_none}
 use Rattle.promises.specs.Numbers.{questions_number}
@@ -74,7 +73,7 @@ module _ (o k : ℕ) (ws : List ℕ) (set : ℕ) where
       by_single : (asked_byte (questioned o k ws set x y m).answer ≡ answer_byte o n words x y) × ((questioned o k ws set x y m).marks ≡ marks_after o n words x y m)
       by_single =
           let e : questioned o k ws set x y m ≡ _ =
-          sym (gone_on (λ r. question_outcome (asked.Refused r) m) o k ws set (question_clauses o x y m) (question_done words x y m) (net_is_checked o k ws set r.allowed r.net) refl) in
+          sym (gone_on (λ r. question_outcome (Err r) m) o k ws set (question_clauses o x y m) (question_done words x y m) (net_is_checked o k ws set r.allowed r.net) refl) in
           let t = single o n words x y m room in
           (ap (λ (q : QuestionOutcome). asked_byte q.answer) e ∙ t.0, ap (λ (q : QuestionOutcome). q.marks) e ∙ t.1)
 
@@ -102,7 +101,7 @@ module _ (o k : ℕ) (ws : List ℕ) (set : ℕ) where
         let t = by_single (subject_at ps i) (kind_at ps i) m room in
         rw t.1 (marks_in_turn_lem ps (suc i) j (marks_after o n words (subject_at ps i) (kind_at ps i) m) (room_after (subject_at ps i) (kind_at ps i) m room))
 
-  module _ (ps bs m : List ℕ) (e : (questioned_all o k ws set ps bs m).answer ≡ Done) where
+  module _ (ps bs m : List ℕ) (e : (questioned_all o k ws set ps bs m).answer ≡ Ok tt) where
     numbered : questions_number (questioned_all o k ws set ps bs m) ≡ 0
     numbered = ap (λ (a : AskedAll). (asked_all_reply a).number) e
 

@@ -1,4 +1,5 @@
 -- What the clash test finds: the smallest clash of the net, or nothing exactly if no node clashes.
+use Rattle.std.specs.Prelude.{None, Ok, Some}
 use Prim.Native.Nat.{ℕ, zero, suc, ◌+◌, ◌≤◌, ◌<◌}
 use mathlib.Core.Path.{◌≡◌, refl, sym, ap, ◌∙◌}
 use mathlib.Core.Bool.{Bool, true, false, cond, ◌&&◌}
@@ -16,8 +17,7 @@ use Rattle.theory.specs.Marks.{says_yes, says_no}
 use Rattle.theory.specs.Completion.{full_marks}
 use Rattle.theory.proofs.completion.Completing.{full_exact}
 use Rattle.clash.specs.Table.{clash_nodes, first_both, first_clash, clash_search, nowhere as isNowhere, clashed_reply}
-use Rattle.clash.specs.declared.Clashed.{Clashed}
-use Rattle.clash.specs.declared.Clashed.TheVariants.{At, Nowhere}
+use Rattle.clash.specs.Table.{Clashed}
 use Rattle.theory.specs.Clashes.{ClashAt, SmallestClash}
 use Rattle.theory.proofs.mending.Computing.{smallest_unique}
 
@@ -63,8 +63,8 @@ module _ (o k : ℕ) (ws : List ℕ) where
 
   -- The search among j nodes from x on came to c.
   data Found (x j : ℕ) (c : Clashed) : Type 0 where
-    somewhere : (u v : ℕ) → c ≡ At u v → x ≤ u → u < x + j → War u v → ((w : ℕ) → x ≤ w → w < u → Peace w) → Found x j c
-    nowhere : c ≡ Nowhere → ((w : ℕ) → x ≤ w → w < x + j → Peace w) → Found x j c
+    somewhere : (u v : ℕ) → c ≡ Ok (Some (u, v)) → x ≤ u → u < x + j → War u v → ((w : ℕ) → x ≤ w → w < u → Peace w) → Found x j c
+    nowhere : c ≡ Ok None → ((w : ℕ) → x ≤ w → w < x + j → Peace w) → Found x j c
 
   later : (x j : ℕ) (c : Clashed) → Peace x → Found (suc x) j c → Found x (suc j) c
   later x j c p (somewhere u v e l h w b) = somewhere u v e (omega arith) (omega arith) w (λ a f g. pick a f g (ℕ_discrete a x))
@@ -89,7 +89,7 @@ module _ (o k : ℕ) (ws : List ℕ) where
       c : Came (full_marks o k ws x) o k r
       c = came (full_marks o k ws x) o k
 
-      at : (q : Bool) → ltb r (o + k) ≡ q → Found (suc x) j (first_clash o k ws (suc x) j) → Found x (suc j) (cond q (At x r) (first_clash o k ws (suc x) j))
+      at : (q : Bool) → ltb r (o + k) ≡ q → Found (suc x) j (first_clash o k ws (suc x) j) → Found x (suc j) (cond q (Ok (Some (x, r))) (first_clash o k ws (suc x) j))
       at true e f =
           let h : r < o + k = ltb-true r (o + k) e in
           somewhere x r refl (omega arith) (omega arith)
@@ -138,7 +138,7 @@ module _ (o k : ℕ) (ws : List ℕ) where
             pick (yes l) = contradiction (sym (w.before v c.kind l) ∙ marks_of_lem x v c)
             pick (no l) = omega arith
 
-    is_smallest : (x y : ℕ) → clash_search o k ws ≡ At x y → SmallestClash o k ws x y
+    is_smallest : (x y : ℕ) → clash_search o k ws ≡ Ok (Some (x, y)) → SmallestClash o k ws x y
     is_smallest x y e = at (search 0 (clash_nodes o k))
       where
         at : Found 0 (clash_nodes o k) (clash_search o k ws) → SmallestClash o k ws x y
@@ -148,15 +148,15 @@ module _ (o k : ℕ) (ws : List ℕ) where
             rw (p, q) at (war_smallest u v (omega arith) w b)
         at (nowhere f b) = contradiction (ap isNowhere (sym e ∙ f))
 
-    smallest_is : (x y : ℕ) → SmallestClash o k ws x y → clash_search o k ws ≡ At x y
+    smallest_is : (x y : ℕ) → SmallestClash o k ws x y → clash_search o k ws ≡ Ok (Some (x, y))
     smallest_is x y c = at (search 0 (clash_nodes o k))
       where
-        at : Found 0 (clash_nodes o k) (clash_search o k ws) → clash_search o k ws ≡ At x y
+        at : Found 0 (clash_nodes o k) (clash_search o k ws) → clash_search o k ws ≡ Ok (Some (x, y))
         at (somewhere u v f l h w b) = let (p, q) = smallest_unique o k ws x y u v c (war_smallest u v (omega arith) w b) in rw (p, q) f
         at (nowhere f b) = no_peace x y c.clash (b x (omega arith) (omega (arith, c.clash.node)))
 
     -- The clash test gives x and y exactly if they are the smallest clash.
-    pub clash_exactly : (x y : ℕ) → (clash_search o k ws ≡ At x y) ↔ SmallestClash o k ws x y
+    pub clash_exactly : (x y : ℕ) → (clash_search o k ws ≡ Ok (Some (x, y))) ↔ SmallestClash o k ws x y
     clash_exactly x y = (is_smallest x y, smallest_is x y)
 
     -- It gives none exactly if no node clashes.

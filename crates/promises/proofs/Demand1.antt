@@ -1,5 +1,7 @@
 -- Demand 1, kept by our engine: whatever numbers and buffers a call is given, its number is that of the first clause that applies, each buffer is
 -- left as that clause says, and where no clause applies the call is done. Nothing is asked of the caller.
+use Rattle.explain.specs.declared.ExplainError.TheVariants as explainedAs
+use Rattle.std.specs.Prelude.{Ok, Some, false, true, Err}
 use Prim.Native.Nat.{ℕ, zero, suc, ◌+◌, ◌*◌}
 use mathlib.Core.Path.{◌≡◌, refl, sym}
 use mathlib.Core.Bool.{Bool, true, false, cond}
@@ -16,33 +18,27 @@ use Rattle.theory.specs.Compaction.{compacted}
 use Rattle.theory.specs.Mending.{kept_from, dropped_from}
 use Rattle.net.specs.Table.{check_net}
 use Rattle.check_word.specs.Table.{word_table, check_word}
-use Rattle.check_word.specs.declared.WordChecked.TheVariants.{Legal}
 use Rattle.scan.specs.Table.{scanned}
 use Rattle.question.specs.Table.{questioned}
 use Rattle.clash.specs.Table.{first_both, first_clash, clash_nodes, clash_search, nowhere, clash_table, clash_done, clashed_reply, clashed_by}
-use Rattle.clash.specs.declared.Clashed.{Clashed}
-use Rattle.clash.specs.declared.Clashed.TheVariants as clashed
+use Rattle.clash.specs.Table.{Clashed}
 use Rattle.completion.specs.Table.{completion_table, completion_done, completed_by}
 use Rattle.compact.specs.Table.{compaction_table, compaction_done, compacted_by}
 use Rattle.mend.specs.Table.{mending_table, mending_done, mended_by}
 use Rattle.reason.specs.Table.{filled, reason_of, reason_table, reason_done, reasoned}
 use Rattle.reason_check.specs.Table.{check_table, check_done, verdict}
-use Rattle.reason_check.specs.declared.Verdict.TheVariants.{Holds, Fails}
 use Rattle.proof.specs.Table.{proof_table, proof_done, proved}
 use Rattle.proof_check.specs.Table.{judged_table, judged_done, judged}
 use Rattle.derivation_lines.specs.Lines.{Line}
 use Rattle.explain.specs.Table.{explain_outcome, explaining, roomless, explain_table, explain_done, explained}
-use Rattle.explain.specs.declared.Explained.TheVariants as explainedAs
 use Rattle.derivation_check.specs.Table.{accepts, lines_done, lines_verdict}
 use Rattle.unit.specs.Table.{unit_table, unit_done, simulated}
 use Rattle.theory.specs.Valuations.{satisfies}
 use Rattle.valuation.specs.Values.{own_values}
 use Rattle.valuation.specs.Table.{valuation_table, valuation_done, filled_by}
 use Rattle.satisfies.specs.Table.{satisfies_table, satisfies_done, tested_by}
-use Rattle.satisfies.specs.declared.Tested.TheVariants as tested
 use Rattle.rows_completion.specs.Table.{rows_table, rows_done, completed_by_rows}
 use Rattle.rows_answer.specs.Table.{answer_in_rows, answer_table, answered_in_rows}
-use Rattle.rows_answer.specs.declared.Answered.TheVariants as answered
 use Rattle.promises.specs.Tables.{Obeys}
 use Rattle.net.specs.Table.{net_table, net_done}
 use Rattle.scan.specs.Table.{scan_table, scan_done}
@@ -62,12 +58,12 @@ clash_found o k ws x zero e = contradiction (sym e)
 clash_found o k ws x (suc j) e =
     at (first_both (full_marks o k ws x) o k) (first_clash o k ws (suc x) j) (ltb (first_both (full_marks o k ws x) o k) (o + k)) (clash_found o k ws (suc x) j) e
   where
-    at : (y : ℕ) (c : Clashed) (q : Bool) → (nowhere c ≡ false → (clashed_reply c).number ≡ 0) → nowhere (cond q (clashed.At x y) c) ≡ false
-        → (clashed_reply (cond q (clashed.At x y) c)).number ≡ 0
+    at : (y : ℕ) (c : Clashed) (q : Bool) → (nowhere c ≡ false → (clashed_reply c).number ≡ 0) → nowhere (cond q (Ok (Some (x, y))) c) ≡ false
+        → (clashed_reply (cond q (Ok (Some (x, y))) c)).number ≡ 0
     at y c true h f = refl
     at y c false h f = h f
 
-verdict_done : (q : Bool) → verdict_number (cond q Holds Fails) ≡ 0
+verdict_done : (q : Bool) → verdict_number (Ok q) ≡ 0
 verdict_done true = refl
 verdict_done false = refl
 
@@ -75,16 +71,16 @@ verdict_done false = refl
 roomless_number : (all : List ℕ) (ls : List Line) (past m l : List ℕ) → explanation_number (roomless all ls past m l) ≡ 8
 roomless_number all ls past m l = at (ltb (length m) (length all))
   where
-    at : (q : Bool) → explanation_number (cond q (explain_outcome (explainedAs.ShortReason (length all)) past m l) (explain_outcome (explainedAs.ShortLines (4 * length ls)) past (over all m) l)) ≡ 8
+    at : (q : Bool) → explanation_number (cond q (explain_outcome (Err (explainedAs.ShortReason (length all))) past m l) (explain_outcome (Err (explainedAs.ShortLines (4 * length ls))) past (over all m) l)) ≡ 8
     at true = refl
     at false = refl
 
-tested_done : (q : Bool) → satisfies_number (cond q tested.Holds tested.Fails) ≡ 0
+tested_done : (q : Bool) → satisfies_number (Ok q) ≡ 0
 tested_done true = refl
 tested_done false = refl
 
 -- The test of a word obeys its table: numbers 1 and 3, or 0.
-pub word_obeys : (o k w : ℕ) → Obeys word_number (word_table o k w) Legal (check_word o k w)
+pub word_obeys : (o k w : ℕ) → Obeys word_number (word_table o k w) (Ok tt) (check_word o k w)
 word_obeys o k w = obeys word_number _ _ (record { numbered = (refl, (refl, tt)); once = refl; nonzero = refl; zero = λ h. refl }) _ refl
 
 module _ (o k : ℕ) (ws : List ℕ) (set : ℕ) where
@@ -201,7 +197,7 @@ satisfies_obeys o k t x y sign =
 
 -- The question of rows: numbers 1, 4 and 5, or 0.
 pub answer_in_rows_obeys : (o k : ℕ) (yeses noes : List ℕ) (x y : ℕ)
-    → Obeys answer_in_rows_number (answer_table o k yeses noes x y) (answered.Done (answer_in_rows (o + k) yeses noes x y)) (answered_in_rows o k yeses noes x y)
+    → Obeys answer_in_rows_number (answer_table o k yeses noes x y) (Ok (answer_in_rows (o + k) yeses noes x y)) (answered_in_rows o k yeses noes x y)
 answer_in_rows_obeys o k yeses noes x y =
     obeys answer_in_rows_number _ _ (record { numbered = (refl, (refl, (refl, tt))); once = refl; nonzero = refl; zero = λ h. refl }) _
     refl

@@ -1,4 +1,5 @@
 -- Demand 2, kept by our engine; and what follows for any engine that keeps it.
+use Rattle.std.specs.Prelude.{Ok}
 use Prim.Native.Nat.{ℕ, ◌+◌, ◌*◌, ◌≤◌, ◌<◌}
 use mathlib.Core.Path.{◌≡◌, refl, sym, subst, ◌∙◌}
 use mathlib.Core.Bool.{Bool, true, false, cond}
@@ -21,11 +22,9 @@ use Rattle.theory.proofs.machine.Bounds.{counted, full_done}
 use Rattle.theory.proofs.machine.Sides.{scan_exact, scan_spent_lem, scan_exact_to, scan_spent_to_lem}
 use Rattle.theory.proofs.machine.Forward.{same_word}
 use Rattle.theory.proofs.completion.Completing.{full_exact}
-use Rattle.scan.specs.declared.Scanned.TheVariants as scanned
 use Rattle.question.specs.Table.{questioned, answer_at}
 use Rattle.question.specs.declared.Answer.{Answer}
 use Rattle.question.specs.declared.Answer.TheVariants.{None, Yes, No, Both}
-use Rattle.question.specs.declared.Asked.TheVariants as asked
 use Rattle.promises.specs.Engines.{Engine, ours}
 use Rattle.promises.specs.Demand2.{Smallest, says, SpentRounds, Demand2}
 use Rattle.promises.specs.Forward.{forward_word}
@@ -72,7 +71,7 @@ module _ (o k : ℕ) (ws : List ℕ) where
       (t, omega (arith, count_unique commands ws (scan_start (o + k) x) count c t n))
 
 module _ (o k : ℕ) (ws : List ℕ) (set : ℕ) where
-  question_exact : (x y : ℕ) (m : List ℕ) (a : Answer) (count : ℕ) → (questioned o k ws set x y m).answer ≡ asked.Done a count
+  question_exact : (x y : ℕ) (m : List ℕ) (a : Answer) (count : ℕ) → (questioned o k ws set x y m).answer ≡ Ok (a, count)
       → (s : Sign) → (says a s ≡ true) ↔ Supported o k (Links (chosen set ws)) x y s
   question_exact x y m a count e s =
       let h = question_answered o k ws set x y m a count e in
@@ -80,7 +79,7 @@ module _ (o k : ℕ) (ws : List ℕ) (set : ℕ) where
       let g = full_exact o k (chosen set ws) h.net x y s h.node h.kind in
       ((λ p. g.0 (sym b ∙ (rw h.word p))), λ p. rw h.word at (b ∙ g.1 p))
 
-  question_rounds_lem : (x y : ℕ) (m : List ℕ) (a : Answer) (count : ℕ) → (questioned o k ws set x y m).answer ≡ asked.Done a count
+  question_rounds_lem : (x y : ℕ) (m : List ℕ) (a : Answer) (count : ℕ) → (questioned o k ws set x y m).answer ≡ Ok (a, count)
       → Count commands (chosen set ws) (scan_start (o + k) x) count × (count ≤ full_budget (o + k))
   question_rounds_lem x y m a count e =
       let h = question_answered o k ws set x y m a count e in
@@ -120,7 +119,7 @@ spent_below cs ws m budget count c r n = pick (dec_lt budget c)
     pick (no h) = absurd (r.busy n.last (omega (arith, n.number)) n.quiet)
 
 -- In the words of the demand, of any engine that keeps it: the answer says s exactly if the statement is in the smallest set.
-pub in_smallest : (e : Engine) → Demand2 e → (o k : ℕ) (ws : List ℕ) (set x y : ℕ) (m : List ℕ) (a : Answer) (count : ℕ) → (e.question o k ws set x y m).answer ≡ asked.Done a count
+pub in_smallest : (e : Engine) → Demand2 e → (o k : ℕ) (ws : List ℕ) (set x y : ℕ) (m : List ℕ) (a : Answer) (count : ℕ) → (e.question o k ws set x y m).answer ≡ Ok (a, count)
     → (P : Statements) → Smallest o k (Links (chosen set ws)) P → (s : Sign) → (says a s ≡ true) ↔ P x y s
 in_smallest e d o k ws set x y m a count h P p s =
     let f = d.question o k ws set x y m a count h s in
@@ -128,8 +127,8 @@ in_smallest e d o k ws set x y m a count h P p s =
     ((λ u. g.1 (f.0 u)), λ u. f.1 (g.0 u))
 
 -- The two ends agree, of any engine that keeps demand 2: y's mark after the scan from the subject x is x's mark after the scan from the kind y.
-pub ends_agree : (e : Engine) → Demand2 e → (o k : ℕ) (ws : List ℕ) (set x y b c : ℕ) (m l : List ℕ) (i j : ℕ) → (e.scan o k ws set x b m).answer ≡ scanned.Done i
-    → (e.scan o k ws set y c l).answer ≡ scanned.Done j → x < o + k → Kind o k y → (s : Sign)
+pub ends_agree : (e : Engine) → Demand2 e → (o k : ℕ) (ws : List ℕ) (set x y b c : ℕ) (m l : List ℕ) (i j : ℕ) → (e.scan o k ws set x b m).answer ≡ Ok i
+    → (e.scan o k ws set y c l).answer ≡ Ok j → x < o + k → Kind o k y → (s : Sign)
     → At (e.scan o k ws set x b m).marks (marker_of s) y ↔ At (e.scan o k ws set y c l).marks (marker_to s) x
 ends_agree e d o k ws set x y b c m l i j p q h g s =
     let f = d.scan o k ws set x b m i p y g s in
@@ -137,7 +136,7 @@ ends_agree e d o k ws set x y b c m l i j p q h g s =
     ((λ u. t.1 (f.0 u)), λ u. f.1 (t.0 u))
 
 -- The word that a question gives is the word of document 01, by its forward scan.
-pub word_of_document_01 : (o k : ℕ) (ws : List ℕ) (set x y : ℕ) (m : List ℕ) (a : Answer) (count : ℕ) → (questioned o k ws set x y m).answer ≡ asked.Done a count
+pub word_of_document_01 : (o k : ℕ) (ws : List ℕ) (set x y : ℕ) (m : List ℕ) (a : Answer) (count : ℕ) → (questioned o k ws set x y m).answer ≡ Ok (a, count)
     → forward_word o k (chosen set ws) x y ≡ a
 word_of_document_01 o k ws set x y m a count e =
     let h = question_answered o k ws set x y m a count e in

@@ -1,4 +1,6 @@
 -- Demand 3, kept by our engine.
+use Rattle.completion.specs.declared.CompletionError.TheVariants as completed
+use Rattle.std.specs.Prelude.{Err}
 use Prim.Native.Nat.{ℕ, ◌+◌, ◌≤◌, ◌<◌}
 use mathlib.Core.Path.{◌≡◌, sym, ap, subst, ◌∙◌}
 use mathlib.Core.List.Memᴰ
@@ -19,8 +21,7 @@ use Rattle.theory.proofs.completion.Completing.{complete_lists, lists_unique}
 use Rattle.theory.proofs.completion.Demand3.{complete_net, complete_again, complete_part, alike as complete-alike, joining_keeps, others_keep, SameAnswer, Alike}
 use Rattle.question.specs.Table.{questioned}
 use Rattle.completion.specs.Table.{CompletionOutcome, completed_by, completed_reply}
-use Rattle.completion.specs.declared.Completed.{Completed}
-use Rattle.completion.specs.declared.Completed.TheVariants as completed
+use Rattle.completion.specs.Table.{Completed}
 use Rattle.promises.specs.Engines.{Engine, Read, HasZero, ours}
 use Rattle.promises.specs.Demand3.{word_of, CompletesTo, Joined, SameWord, Demand3}
 use Rattle.promises.proofs.Demand1.{completion_obeys}
@@ -177,7 +178,7 @@ module _ (o k : ℕ) where
           ∙ q
 
 -- A list that is too short is shorter than the supported words, whose number is given.
-short_needs : (o k : ℕ) (ws : List ℕ) (set : ℕ) (m l : List ℕ) (n : ℕ) → (completed_by o k ws set m l).answer ≡ completed.Short n → (out : List ℕ) → Lists o k (chosen set ws) out
+short_needs : (o k : ℕ) (ws : List ℕ) (set : ℕ) (m l : List ℕ) (n : ℕ) → (completed_by o k ws set m l).answer ≡ Err (completed.Short n) → (out : List ℕ) → Lists o k (chosen set ws) out
     → (n ≡ length out) × (length l < n)
 short_needs o k ws set m l n e out c =
     let all = complete o k (chosen set ws) in

@@ -1,4 +1,6 @@
 -- Our engine keeps what is promised of the explanation and of the derivation check.
+use Rattle.explain.specs.declared.ExplainError.TheVariants as explainedAs
+use Rattle.std.specs.Prelude.{Err, Ok}
 use Prim.Native.Nat.{ℕ, ◌+◌, ◌*◌, ◌%◌, ◌≤◌, ◌<◌}
 use mathlib.Core.Path.{◌≡◌, refl, sym, ap, ◌∙◌}
 use mathlib.Core.List.{List}
@@ -24,8 +26,7 @@ use Rattle.derivation_lines.proofs.Sound.{every_line_supported}
 use Rattle.derivation_check.specs.Table.{DerivationOf}
 use Rattle.derivation_check.proofs.Exactly.{holds_exactly, fails_exactly, holds_supported, holds_one_way}
 use Rattle.explain.specs.Table.{ExplainOutcome, explaining as linesFor, explain_done, explained, explained_reply}
-use Rattle.explain.specs.declared.Explained.{Explained}
-use Rattle.explain.specs.declared.Explained.TheVariants as explainedAs
+use Rattle.explain.specs.Table.{Explained}
 use Rattle.explain.proofs.Found.{explained_by_lem}
 use Rattle.explain.proofs.Meaning.{done_explains}
 use Rattle.promises.specs.Engines.{Read, ours}
@@ -73,11 +74,11 @@ module _ (o k : ℕ) (ws : List ℕ) (set x y sign : ℕ) (d m l : List ℕ) whe
         leaves = (explanation_obeys o k ws set x y sign d m l).leaves 0 u;
       }
 
-  module _ (places size : ℕ) (e : outcome.answer ≡ explainedAs.Done places size) where
+  module _ (places size : ℕ) (e : outcome.answer ≡ Ok (places, size)) where
     done : Found
     done = found (ap (λ (r : Explained). (explained_reply r).number) e)
 
-    same : explainedAs.Done (4 * length ls) (length all) ≡ explainedAs.Done places size
+    same : ◌≡◌ {A = Explained} (Ok (4 * length ls, length all)) (Ok (places, size))
     same = sym (ap (λ (r : ExplainOutcome). r.answer) done.leaves) ∙ e
 
     places_is : 4 * length ls ≡ places
@@ -117,7 +118,7 @@ module _ (o k : ℕ) (ws : List ℕ) (set x y sign : ℕ) (d m l : List ℕ) whe
   past = filled picked y sign d (o + k)
 
   -- The reason has no room,
-  reason_short : (needed : ℕ) → outcome.answer ≡ explainedAs.ShortReason needed → ReasonOf o k picked x y sign needed × (length m < needed)
+  reason_short : (needed : ℕ) → outcome.answer ≡ Err (explainedAs.ShortReason needed) → ReasonOf o k picked x y sign needed × (length m < needed)
   reason_short needed e =
       let u = ((explanation_obeys o k ws set x y sign d m l).exactly 8).0 (ap (λ (r : Explained). (explained_reply r).number) e) in
       let q = (explanation_obeys o k ws set x y sign d m l).leaves 8 u in
@@ -128,8 +129,8 @@ module _ (o k : ℕ) (ws : List ℕ) (set x y sign : ℕ) (d m l : List ℕ) whe
       ((reason_of_lem o k picked x y sign (chosen_of o k ws set read) good.pair.node (good_kind good.pair) u.1.1.1.1.1.1.0 needed z).0, omega (arith, less, z))
 
   -- or the lines have none; with more room they have.
-  lines_short : (needed : ℕ) → outcome.answer ≡ explainedAs.ShortLines needed
-      → (length l < needed) × (outcome.lines ≡ l) × ((l' : List ℕ) → needed ≤ length l' → (size : ℕ) × ((explained o k ws set x y sign d m l').answer ≡ explainedAs.Done needed size))
+  lines_short : (needed : ℕ) → outcome.answer ≡ Err (explainedAs.ShortLines needed)
+      → (length l < needed) × (outcome.lines ≡ l) × ((l' : List ℕ) → needed ≤ length l' → (size : ℕ) × ((explained o k ws set x y sign d m l').answer ≡ Ok (needed, size)))
   lines_short needed e =
       let u = ((explanation_obeys o k ws set x y sign d m l).exactly 8).0 (ap (λ (r : Explained). (explained_reply r).number) e) in
       let q = (explanation_obeys o k ws set x y sign d m l).leaves 8 u in
@@ -142,17 +143,17 @@ module _ (o k : ℕ) (ws : List ℕ) (set x y sign : ℕ) (d m l : List ℕ) whe
           ap (λ (r : ExplainOutcome). r.answer)
               ((explanation_obeys o k ws set x y sign d m l').leaves 0
               (u.0, (u.1.0, (u.1.1.0, (u.1.1.1.0, (u.1.1.1.1.0, (u.1.1.1.1.1.0, (u.1.1.1.1.1.1.0, (rw (t, le-ltb (length l') (4 * length ls) (omega (arith, room, z))), refl)))))))))
-              ∙ ap (λ (n : ℕ). explainedAs.Done n (length all)) z,
+              ∙ ap (λ (n : ℕ). Ok (n, length all)) z,
         ),
       )
 
   -- There is a reason, and room for it and for all lines that there can be.
   ends : (size : ℕ) → Read o k ws set → GoodStatement o (o + k) x y sign → 2 * (o + k) ≤ length d → (r : ReasonOf o k picked x y sign size) → size ≤ length m
-      → 4 * (2 * links_of r + 1) ≤ length l → (places : ℕ) × (outcome.answer ≡ explainedAs.Done places size)
+      → 4 * (2 * links_of r + 1) ≤ length l → (places : ℕ) × (outcome.answer ≡ Ok (places, size))
   ends size read good wide r fits long =
       let f = found ((explanation_0 o k ws set x y sign d m l).1 (read, (good, (wide, (size, r, (fits, omega (arith, long, derive_size set ws o x r.xs r.ys, derive_short set ws o x r.xs r.ys))))))) in
       let same : length all ≡ size = one_size o k ws set x y sign d m (chosen_of o k ws set read) good (length all) size (f.path (length all) refl).0 r in
-      (4 * length ls, ap (λ (q : ExplainOutcome). q.answer) f.leaves ∙ ap (explainedAs.Done (4 * length ls)) same)
+      (4 * length ls, ap (λ (q : ExplainOutcome). q.answer) f.leaves ∙ ap (λ (n : ℕ). Ok (4 * length ls, n)) same)
 
 pub explaining : Explaining ours
 explaining = record {

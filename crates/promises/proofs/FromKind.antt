@@ -1,4 +1,6 @@
 -- Any engine that keeps the three demands keeps the laws of demand 3 where it is asked from the kind.
+use Rattle.scan.specs.declared.ScanError.TheVariants as scanned
+use Rattle.std.specs.Prelude.{Err, Ok}
 use Prim.Native.Nat.{ℕ, ◌+◌, ◌*◌, ◌-◌, ◌≤◌, ◌<◌}
 use mathlib.Core.Path.{◌≡◌, refl, sym, ap, subst, ◌∙◌}
 use mathlib.Core.List.{List, [], ◌++◌, append-nil, Memᴰ}
@@ -19,8 +21,7 @@ use Rattle.theory.proofs.Legal.{legal_links}
 use Rattle.theory.proofs.support.Joining.{Sub, ends}
 use Rattle.net.proofs.Replies.{refusal_numbers}
 use Rattle.scan.specs.Table.{ScanOutcome, scan_table, scan_reply}
-use Rattle.scan.specs.declared.Scanned.{Scanned}
-use Rattle.scan.specs.declared.Scanned.TheVariants as scanned
+use Rattle.scan.specs.Table.{Scanned}
 use Rattle.promises.specs.Tables.{Due}
 use Rattle.promises.specs.Engines.{Engine, Read, HasZero, ours}
 use Rattle.promises.specs.Demand1.{Demand1}
@@ -33,15 +34,15 @@ use Rattle.promises.proofs.Demand2.{demand_2}
 use Rattle.promises.proofs.Demand3.{joined_net, plain_read, plain_chosen, completes_once, demand_3}
 
 -- An outcome with number 0 is done.
-number_0 : (r : Scanned) → (scan_reply r).number ≡ 0 → (count : ℕ) × (r ≡ scanned.Done count)
-number_0 (scanned.Done count) e = (count, refl)
-number_0 (scanned.Spent count) e = absurd (omega arith)
-number_0 (scanned.Refused r) e = absurd (omega (arith, refusal_numbers r))
+number_0 : (r : Scanned) → (scan_reply r).number ≡ 0 → (count : ℕ) × (r ≡ Ok count)
+number_0 (Ok count) e = (count, refl)
+number_0 (Err (scanned.Spent count)) e = absurd (omega arith)
+number_0 (Err (scanned.Refused r)) e = absurd (omega (arith, refusal_numbers r))
 
 module _ (e : Engine) (first : Demand1 e) (second : Demand2 e) (o k : ℕ) where
   -- No clause of the table applies to a scan from a kind over a net that has room and rounds enough.
   scan_done_lem : (ws : List ℕ) (set : ℕ) → Read o k ws set → (y : ℕ) → Kind o k y → (budget : ℕ) → 3 * (o + k) - 1 ≤ budget → (room : List ℕ) → o + k ≤ length room
-      → (count : ℕ) × ((e.scan o k ws set y budget room).answer ≡ scanned.Done count)
+      → (count : ℕ) × ((e.scan o k ws set y budget room).answer ≡ Ok count)
   scan_done_lem ws set r y h budget g room l =
       let t = (past_checks o k ws set).1 r in
       let due : Due 0 (scan_table o k ws set y budget room) =

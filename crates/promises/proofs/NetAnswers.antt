@@ -1,4 +1,5 @@
 -- What our engine answers to a question over a net: the word is that of one byte, so nets with the same bytes give the same words.
+use Rattle.std.specs.Prelude.{Err, Ok}
 use Prim.Native.Nat.{ℕ, ◌+◌, ◌<◌}
 use mathlib.Core.Path.{◌≡◌, refl, sym, ap, ◌∙◌}
 use mathlib.Core.Bool.{Bool, true, false, cond}
@@ -21,11 +22,11 @@ use Rattle.net.proofs.Good.{good_pair, good_kind}
 use Rattle.question.specs.Table.{QuestionOutcome, question_outcome, question_clauses, question_done, questioned, answer_at, read_at}
 use Rattle.net.proofs.OnNet.{gone_on}
 use Rattle.question.specs.declared.Answer.{Answer}
-use Rattle.question.specs.declared.Asked.{Asked}
-use Rattle.question.specs.declared.Asked.TheVariants as asked
+use Rattle.question.specs.Table.{Asked}
 use Rattle.promises.specs.Engines.{Read}
 use Rattle.promises.specs.Demand2.{says}
 use Rattle.promises.specs.Demand3.{word_of, said_by}
+use Rattle.promises.proofs.Answered.{word_in}
 use Rattle.promises.proofs.Demand2.{answer_says}
 
 -- The byte that a question over a net reads.
@@ -47,18 +48,18 @@ module _ (o k x y : ℕ) where
   module _ (m : List ℕ) where
     -- The answer over a net, by the two tests and the byte.
     abbrev answer : Bool → Bool → ℕ → ℕ → Asked
-    answer bad short b count = cond bad (asked.Refused BadQuestion) (cond short (asked.Refused ShortBuffer) (asked.Done (answer_at b) count))
+    answer bad short b count = cond bad (Err BadQuestion) (cond short (Err ShortBuffer) (Ok (answer_at b, count)))
 
     net_answer : (ws : List ℕ) (set : ℕ) → Read o k ws set
         → (questioned o k ws set x y m).answer ≡ answer (bad_pair o (o + k) x y) (ltb (length m) (o + k)) (byte o k (chosen set ws) x y) (full_scan (o + k) (chosen set ws) x).count
     net_answer ws set r =
         ap (λ (q : QuestionOutcome). q.answer)
-        (sym (gone_on (λ r. question_outcome (asked.Refused r) m) o k ws set (question_clauses o x y m) (question_done (chosen set ws) x y m) (net_is_checked o k ws set r.allowed r.net) refl))
+        (sym (gone_on (λ r. question_outcome (Err r) m) o k ws set (question_clauses o x y m) (question_done (chosen set ws) x y m) (net_is_checked o k ws set r.allowed r.net) refl))
         ∙ at (bad_pair o (o + k) x y) (ltb (length m) (o + k))
       where
         at : (p q : Bool)
-            → (cond p (question_outcome (asked.Refused BadQuestion) m)
-            (cond q (question_outcome (asked.Refused ShortBuffer) m) (read_at y (full_scan (o + k) (chosen set ws) x) (drop (o + k) m)))).answer
+            → (cond p (question_outcome (Err BadQuestion) m)
+            (cond q (question_outcome (Err ShortBuffer) m) (read_at y (full_scan (o + k) (chosen set ws) x) (drop (o + k) m)))).answer
             ≡ answer p q (byte o k (chosen set ws) x y) (full_scan (o + k) (chosen set ws) x).count
         at true q = refl
         at false true = refl
@@ -80,7 +81,7 @@ module _ (o k x y : ℕ) where
               ≡ word_of (answer p q (byte o k right x y) (full_scan (o + k) right x).count)
           at true q e = refl
           at false true e = refl
-          at false false e = ap (λ (a : Answer). asked.Done a 0) (same_answer (byte o k left x y) (byte o k right x y) (f (good e).0 (good e).1))
+          at false false e = ap (λ (a : Answer). Ok (a, 0)) (same_answer (byte o k left x y) (byte o k right x y) (f (good e).0 (good e).1))
 
       -- A yes or a no that a byte gives and another keeps.
       pub keeps_said : (s : Sign) → (x < o + k → Kind o k y → has (marker_of s) (byte o k left x y) ≡ true → has (marker_of s) (byte o k right x y) ≡ true)
@@ -99,6 +100,6 @@ module _ (o k x y : ℕ) where
       → word_of (questioned o k ws set x y (blank (o + k))).answer ≡ word_of (questioned o k vs set' x y (blank (o + k))).answer → SameAnswer o k (chosen set ws) (chosen set' vs) x y
   word_same ws set vs set' n r h g e =
       let room : length (blank (o + k)) ≡ o + k = length-replicate {A = ℕ} (o + k) 0 in
-      let w : asked.Done (answer_at (byte o k (chosen set ws) x y)) 0 ≡ asked.Done (answer_at (byte o k (chosen set' vs) x y)) 0 =
+      let w : Ok (answer_at (byte o k (chosen set ws) x y), 0) ≡ Ok (answer_at (byte o k (chosen set' vs) x y), 0) =
       rw (net_answer (blank (o + k)) ws set n, net_answer (blank (o + k)) vs set' r, (good_pair o (o + k) x y).1 (record { node = h; low = g.low; high = g.high }), le-ltb (length (blank (o + k))) (o + k) (omega arith)) at e in
-      answer_same (byte o k (chosen set ws) x y) (byte o k (chosen set' vs) x y) cc
+      answer_same (byte o k (chosen set ws) x y) (byte o k (chosen set' vs) x y) (ap (word_in (answer_at (byte o k (chosen set ws) x y))) w)

@@ -1,4 +1,5 @@
 -- After a scan from an object only the bytes of kinds are answers: read at every node, as the report's Theorem 4 does, they would say what no rule gives.
+use Rattle.std.specs.Prelude.{Ok}
 use Prim.Native.Nat.{ℕ, ◌+◌, ◌<◌}
 use mathlib.Core.Path.{◌≡◌, refl, ap}
 use mathlib.Core.List.{List, [], ◌∷◌}
@@ -17,11 +18,10 @@ use Rattle.theory.specs.Origins.{chosen}
 use Rattle.net.specs.Passing.{passing}
 use Rattle.net.specs.Table.{check_net}
 use Rattle.scan.specs.Table.{ScanOutcome, scanned}
-use Rattle.scan.specs.declared.Scanned.TheVariants as answer
 use Rattle.promises.proofs.Answered.{scan_ended}
 
 -- One object, one kind, no words: the scan from the object leaves T and U on it.
-on_itself : scanned 1 1 [] 15 0 1 (blank 2) ≡ record { answer = answer.Done 1; marks = 5 ∷ 0 ∷ [] }
+on_itself : scanned 1 1 [] 15 0 1 (blank 2) ≡ record { answer = Ok 1; marks = 5 ∷ 0 ∷ [] }
 unfolding check_net chosen passing after rounds same round command links link mark
 on_itself = refl
 
@@ -33,14 +33,14 @@ not_itself : Supported 1 1 (Links []) 0 0 is → ⊥
 not_itself p = let e = ends 1 1 (Links []) (legal_links 1 1 [] no_words) 0 0 is p in omega (arith, e.1.low)
 
 -- So its bytes are not exact at every node.
-pub objects_say_nothing : ((o k : ℕ) (ws : List ℕ) (set x budget : ℕ) (m : List ℕ) (count : ℕ) → (scanned o k ws set x budget m).answer ≡ answer.Done count
+pub objects_say_nothing : ((o k : ℕ) (ws : List ℕ) (set x budget : ℕ) (m : List ℕ) (count : ℕ) → (scanned o k ws set x budget m).answer ≡ Ok count
     → (y : ℕ) → y < o + k → (s : Sign) → At (scanned o k ws set x budget m).marks (marker_of s) y ↔ Supported o k (Links (chosen set ws)) x y s) → ⊥
 unfolding chosen
 objects_say_nothing f =
     not_itself ((f 1 1 [] 15 0 1 (blank 2) 1 (ap (λ (r : ScanOutcome). r.answer) on_itself) 0 (omega arith) is).0 (rw on_itself refl))
 
 -- From an object T stands on it alone: no node leads to an object.
-pub T_on_the_object : (o k : ℕ) (ws : List ℕ) (set x budget : ℕ) (m : List ℕ) (count : ℕ) → (scanned o k ws set x budget m).answer ≡ answer.Done count → x < o
+pub T_on_the_object : (o k : ℕ) (ws : List ℕ) (set x budget : ℕ) (m : List ℕ) (count : ℕ) → (scanned o k ws set x budget m).answer ≡ Ok count → x < o
     → (z : ℕ) → z < o + k → At (scanned o k ws set x budget m).marks T z ↔ (z ≡ x)
 T_on_the_object o k ws set x budget m count e h z l =
     let r = scan_ended o k ws set x budget m count e in

@@ -1,5 +1,8 @@
 -- Links stand in any order and a repeated word counts once: over two nets of which the same words are chosen a scan, a question and a screenful of questions do the same.
 -- The completion, the clash test, the reason and the reason check stand in `Reordered`.
+use Rattle.questions.specs.declared.PairsError.TheVariants as askedAll
+use Rattle.scan.specs.declared.ScanError.TheVariants as answer
+use Rattle.std.specs.Prelude.{Err, Ok}
 use Prim.Native.Nat.{ℕ, zero, suc, ◌+◌, ◌<◌}
 use mathlib.Core.Path.{◌≡◌, refl, sym, ap, ◌∙◌}
 use mathlib.Core.Bool.{Bool, true, false, cond}
@@ -18,17 +21,14 @@ use Rattle.theory.proofs.machine.Starts.{start_long, commands_put_8}
 use Rattle.net.specs.Table.{bad_pair}
 use Rattle.net.proofs.NetCheck.{net_is_checked}
 use Rattle.scan.specs.Table.{ScanOutcome, scan_outcome, bad_start, scan_clauses, scan_done, scanned}
-use Rattle.scan.specs.declared.Scanned.TheVariants as answer
 use Rattle.scan.proofs.Outcomes.{scan_end, scan_end_lem}
 use Rattle.net.specs.declared.Refusal.{Refusal}
 use Rattle.net.proofs.OnNet.{gone_on}
 use Rattle.net.proofs.Good.{good_pair}
 use Rattle.question.specs.Table.{QuestionOutcome, question_outcome, question_clauses, question_done, questioned, read_at, answer_at, answer_number}
-use Rattle.question.specs.declared.Asked.TheVariants as asked
 use Rattle.theory_laws.specs.Over.{over}
 use Rattle.questions.specs.Pairs.{pairs_in, subject_at, kind_at}
 use Rattle.questions.specs.Table.{QuestionsOutcome, questions_outcome, bad_pairs, answer_byte, marks_after, answers_from, marks_from, questions_clauses, questions_done, questioned_all}
-use Rattle.questions.specs.declared.AskedAll.TheVariants as askedAll
 use Rattle.promises.specs.Engines.{Read}
 use Rattle.promises.proofs.Tests.{chosen_of}
 
@@ -53,7 +53,7 @@ module _ (o k : ℕ) (ws : List ℕ) (set : ℕ) (vs : List ℕ) (set' : ℕ) (n
   pub scan_order : (x budget : ℕ) (m : List ℕ) → scanned o k ws set x budget m ≡ scanned o k vs set' x budget m
   scan_order x budget m =
       let over-past : Scan → ScanOutcome = λ s. scan_end (record { done = s.done; count = s.count; marks = s.marks ++ drop (o + k) m }) in
-      let refused : Refusal → ScanOutcome = λ r. scan_outcome (answer.Refused r) m in
+      let refused : Refusal → ScanOutcome = λ r. scan_outcome (Err (answer.Refused r)) m in
       sym (gone_on refused o k ws set (scan_clauses (chosen set ws) x budget m) (scan_done (chosen set ws) x budget m) (net_is_checked o k ws set n.allowed n.net) refl)
       ∙ after_tests (bad_start (o + k) x) (ltb (length m) (o + k)) _ _
       (λ e. sym (scan_end_lem commands (chosen set ws) (scan_start (o + k) x) budget (drop (o + k) m))
@@ -64,7 +64,7 @@ module _ (o k : ℕ) (ws : List ℕ) (set : ℕ) (vs : List ℕ) (set' : ℕ) (n
   -- The question.
   pub question_order : (x y : ℕ) (m : List ℕ) → questioned o k ws set x y m ≡ questioned o k vs set' x y m
   question_order x y m =
-      let refused : Refusal → QuestionOutcome = λ r. question_outcome (asked.Refused r) m in
+      let refused : Refusal → QuestionOutcome = λ r. question_outcome (Err r) m in
       sym (gone_on refused o k ws set (question_clauses o x y m) (question_done (chosen set ws) x y m) (net_is_checked o k ws set n.allowed n.net) refl)
       ∙ after_tests (bad_pair o (o + k) x y) (ltb (length m) (o + k)) _ _
       (λ e. ap (λ (s : Scan). read_at y s (drop (o + k) m)) (same x (full_budget (o + k)) ((good_pair o (o + k) x y).0 e).node))
@@ -107,8 +107,8 @@ module _ (o k : ℕ) (ws : List ℕ) (set : ℕ) (vs : List ℕ) (set' : ℕ) (n
   -- The screenful.
   pub questions_order : (ps bs m : List ℕ) → questioned_all o k ws set ps bs m ≡ questioned_all o k vs set' ps bs m
   questions_order ps bs m =
-      let refused : Refusal → QuestionsOutcome = λ r. questions_outcome (askedAll.Refused r) bs m in
+      let refused : Refusal → QuestionsOutcome = λ r. questions_outcome (Err (askedAll.Refused r)) bs m in
       sym (gone_on refused o k ws set (questions_clauses ps bs m) (questions_done o left ps bs m) (net_is_checked o k ws set n.allowed n.net) refl)
       ∙ after_tests (bad_pairs (length ps) (length bs)) (ltb (length m) (o + k)) _ _
-      (λ e. λ i. record { answer = askedAll.Done; answers = over (all_bytes_same ps 0 (pairs_in ps) i) bs; marks = all_marks_same ps 0 (pairs_in ps) m i })
+      (λ e. λ i. record { answer = Ok tt; answers = over (all_bytes_same ps 0 (pairs_in ps) i) bs; marks = all_marks_same ps 0 (pairs_in ps) m i })
       ∙ gone_on refused o k vs set' (questions_clauses ps bs m) (questions_done o right ps bs m) (net_is_checked o k vs set' p.allowed p.net) refl

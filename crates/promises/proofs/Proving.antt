@@ -1,4 +1,6 @@
 -- Our engine keeps what is promised of the proof and of the proof check.
+use Rattle.proof.specs.declared.ProofError.TheVariants as provedAs
+use Rattle.std.specs.Prelude.{Err, Ok}
 use Prim.Native.Nat.{ℕ, ◌+◌, ◌-◌, ◌*◌, ◌≤◌, ◌<◌}
 use mathlib.Core.Path.{◌≡◌, refl, sym, ap, subst, ◌∙◌}
 use mathlib.Core.Bool.{Bool, true, false, cond}
@@ -25,8 +27,7 @@ use Rattle.reason.specs.Table.{filled, reason_of}
 use Rattle.proof_form.specs.Ours.{our_file, our_depth}
 use Rattle.proof_form.proofs.Building as building
 use Rattle.proof.specs.Table.{ProofOutcome, links_of, proof_of, proved, proved_reply}
-use Rattle.proof.specs.declared.Proved.{Proved}
-use Rattle.proof.specs.declared.Proved.TheVariants as provedAs
+use Rattle.proof.specs.Table.{Proved}
 use Rattle.proof.proofs.Ours.{OurProof, our_proof}
 use Rattle.proof.proofs.AfterReason.{done_proves, scratch_as_reason}
 use Rattle.proof_check.proofs.Exactly.{judged_exactly, faulty_exactly, no_step_exactly, judged_supported}
@@ -59,7 +60,7 @@ module _ (o k : ℕ) (ws : List ℕ) (set x y sign : ℕ) (d l : List ℕ) where
     as_long : length outcome.list ≡ length l
     fits : size ≤ length l
 
-  found : (size : ℕ) → outcome.answer ≡ provedAs.Done size → Found size
+  found : (size : ℕ) → outcome.answer ≡ Ok size → Found size
   found size e =
       let u = ((proof_obeys o k ws set x y sign d l).exactly 0).0 (ap (λ (r : Proved). (proved_reply r).number) e) in
       let q = (proof_obeys o k ws set x y sign d l).leaves 0 u in
@@ -85,7 +86,7 @@ module _ (o k : ℕ) (ws : List ℕ) (set x y sign : ℕ) (d l : List ℕ) where
   reason_by p = record { xs = p.xs; ys = p.ys; shortest = p.shortest; long = refl }
 
   -- What is written is our proof,
-  is_ours : (size : ℕ) → outcome.answer ≡ provedAs.Done size
+  is_ours : (size : ℕ) → outcome.answer ≡ Ok size
       → (places : ℕ) × (r : ReasonOf o k picked x y sign places) × (take size outcome.list ≡ our_file o (o + k) picked x y (sign_at sign) r.xs r.ys)
   is_ours size e =
       let f = found size e in
@@ -96,7 +97,7 @@ module _ (o k : ℕ) (ws : List ℕ) (set x y sign : ℕ) (d l : List ℕ) where
       (length (written x p.xs p.ys), reason_by p, ap (λ (r : ProofOutcome). take size r.list) q ∙ (take_at all (drop (length all) l) size z ∙ p.list))
 
   -- and what is too deep is ours.
-  too_deep : outcome.answer ≡ provedAs.TooDeep
+  too_deep : outcome.answer ≡ Err provedAs.TooDeep
       → (places : ℕ) × (r : ReasonOf o k picked x y sign places) × (p : Proof o k picked x y (sign_at sign))
       × (proof_file p ≡ our_file o (o + k) picked x y (sign_at sign) r.xs r.ys) × (depth_limit < proof_depth p)
   too_deep e =
@@ -112,8 +113,8 @@ module _ (o k : ℕ) (ws : List ℕ) (set x y sign : ℕ) (d l : List ℕ) where
   -- A good statement over a net, with room in the scratch and a reason.
   module _ (read : Read o k ws set) (good : GoodStatement o (o + k) x y sign) (wide : 2 * (o + k) ≤ length d) where
     -- A supported statement is done, too deep, or finds no room.
-    ends : Supported o k (Links picked) x y (sign_at sign) → (outcome.answer ≡ provedAs.TooDeep → ⊥) → ((needed : ℕ) → outcome.answer ≡ provedAs.Short needed → ⊥)
-        → (size : ℕ) × (outcome.answer ≡ provedAs.Done size)
+    ends : Supported o k (Links picked) x y (sign_at sign) → (outcome.answer ≡ Err provedAs.TooDeep → ⊥) → ((needed : ℕ) → outcome.answer ≡ Err (provedAs.Short needed) → ⊥)
+        → (size : ℕ) × (outcome.answer ≡ Ok size)
     ends s deep short = at (ltb depth_limit (our_depth o x (links_of picked x y sign (o + k)))) refl (ltb (length l) (length all)) refl
       where
         way : eqb (links_of picked x y sign (o + k)) never ≡ false
@@ -125,7 +126,7 @@ module _ (o k : ℕ) (ws : List ℕ) (set x y sign : ℕ) (d l : List ℕ) where
         wide_enough : ltb (length d) ((o + k) + (o + k)) ≡ false
         wide_enough = (room o k ws set x y sign d l).1 wide
 
-        at : (a : Bool) → ltb depth_limit (our_depth o x (links_of picked x y sign (o + k))) ≡ a → (b : Bool) → ltb (length l) (length all) ≡ b → (size : ℕ) × (outcome.answer ≡ provedAs.Done size)
+        at : (a : Bool) → ltb depth_limit (our_depth o x (links_of picked x y sign (o + k))) ≡ a → (b : Bool) → ltb (length l) (length all) ≡ b → (size : ℕ) × (outcome.answer ≡ Ok size)
         at true e b f =
             let t = (past_checks o k ws set).1 read in
             absurd (deep (ap (λ (r : ProofOutcome). r.answer) ((proof_obeys o k ws set x y sign d l).leaves 11 (t.0, (t.1, (t.2, (t.3, (bad, (wide_enough, (way, e))))))))))
@@ -137,24 +138,24 @@ module _ (o k : ℕ) (ws : List ℕ) (set x y sign : ℕ) (d l : List ℕ) where
             (length all, ap (λ (r : ProofOutcome). r.answer) ((proof_obeys o k ws set x y sign d l).leaves 0 (t.0, (t.1, (t.2, (t.3, (bad, (wide_enough, (way, (e, (f, refl)))))))))))
 
     -- One that is done tells how many numbers are written, by the places of any shortest reason.
-    done : (places : ℕ) → ReasonOf o k picked x y sign places → proof_number outcome ≡ 0 → outcome.answer ≡ provedAs.Done (cond (ltb x o) (8 * (places - 4) + 6) (8 * (places - 3) + 9))
+    done : (places : ℕ) → ReasonOf o k picked x y sign places → proof_number outcome ≡ 0 → outcome.answer ≡ Ok (cond (ltb x o) (8 * (places - 4) + 6) (8 * (places - 3) + 9))
     done places r e =
         let u = ((proof_obeys o k ws set x y sign d l).exactly 0).0 e in
         let net = chosen_of o k ws set read in
         let q = (reason_of_lem o k picked x y sign net good.pair.node (good_kind good.pair) u.1.1.1.1.1.1.0 (length (reason_of picked x y sign (o + k))) refl).0 in
         let same : length (reason_of picked x y sign (o + k)) ≡ places = one_size o k ws set x y sign d l net good (length (reason_of picked x y sign (o + k))) places q r in
         ap (λ (r : ProofOutcome). r.answer) ((proof_obeys o k ws set x y sign d l).leaves 0 u)
-        ∙ ap provedAs.Done (sized o k ws set x y sign d l ∙ ap (λ (i : ℕ). cond (ltb x o) (8 * (i - 4) + 6) (8 * (i - 3) + 9)) same)
+        ∙ ap Ok (sized o k ws set x y sign d l ∙ ap (λ (i : ℕ). cond (ltb x o) (8 * (i - 4) + 6) (8 * (i - 3) + 9)) same)
 
-    of_object : (places : ℕ) → ReasonOf o k picked x y sign places → x < o → places ≤ 258 → 8 * (places - 4) + 6 ≤ length l → outcome.answer ≡ provedAs.Done (8 * (places - 4) + 6)
+    of_object : (places : ℕ) → ReasonOf o k picked x y sign places → x < o → places ≤ 258 → 8 * (places - 4) + 6 ≤ length l → outcome.answer ≡ Ok (8 * (places - 4) + 6)
     of_object places r h small fits =
         done places r ((proof_0 o k ws set x y sign d l).1 (read, (good, (wide, (places, r, inl (h, (small, fits)))))))
-        ∙ ap (λ (q : Bool). provedAs.Done (cond q (8 * (places - 4) + 6) (8 * (places - 3) + 9))) (lt-ltb x o h)
+        ∙ ap (λ (q : Bool). Ok (cond q (8 * (places - 4) + 6) (8 * (places - 3) + 9))) (lt-ltb x o h)
 
-    of_kind : (places : ℕ) → ReasonOf o k picked x y sign places → o ≤ x → places ≤ 256 → 8 * (places - 3) + 9 ≤ length l → outcome.answer ≡ provedAs.Done (8 * (places - 3) + 9)
+    of_kind : (places : ℕ) → ReasonOf o k picked x y sign places → o ≤ x → places ≤ 256 → 8 * (places - 3) + 9 ≤ length l → outcome.answer ≡ Ok (8 * (places - 3) + 9)
     of_kind places r h small fits =
         done places r ((proof_0 o k ws set x y sign d l).1 (read, (good, (wide, (places, r, inr (h, (small, fits)))))))
-        ∙ ap (λ (q : Bool). provedAs.Done (cond q (8 * (places - 4) + 6) (8 * (places - 3) + 9))) (le-ltb x o h)
+        ∙ ap (λ (q : Bool). Ok (cond q (8 * (places - 4) + 6) (8 * (places - 3) + 9))) (le-ltb x o h)
 
 pub proving : Proving ours
 proving = record {

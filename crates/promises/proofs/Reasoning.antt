@@ -1,4 +1,6 @@
 -- Our engine's reasons are the shortest, and its check accepts exactly the paths that show the statement.
+use Rattle.reason.specs.declared.ReasonError.TheVariants as reasonedAs
+use Rattle.std.specs.Prelude.{Err, Ok, false, true}
 use Prim.Native.Nat.{ℕ, ◌+◌, ◌≤◌, ◌<◌}
 use mathlib.Core.Path.{◌≡◌, refl, sym, ap, ◌∙◌}
 use mathlib.Core.Bool.{Bool, true, false, cond}
@@ -22,11 +24,9 @@ use Rattle.net.specs.Table.{bad_statement}
 use Rattle.net.specs.declared.Refusal.{Refusal}
 use Rattle.net.proofs.Good.{good_statement, good_kind}
 use Rattle.reason.specs.Table.{ReasonOutcome, filled, reason_of, reasoned, reasoned_reply}
-use Rattle.reason.specs.declared.Reasoned.{Reasoned}
-use Rattle.reason.specs.declared.Reasoned.TheVariants as reasonedAs
+use Rattle.reason.specs.Table.{Reasoned}
 use Rattle.reason_check.specs.Table.{verdict, verdict_reply}
-use Rattle.reason_check.specs.declared.Verdict.{Verdict}
-use Rattle.reason_check.specs.declared.Verdict.TheVariants.{Holds, Fails}
+use Rattle.reason_check.specs.Table.{Verdict}
 use Rattle.promises.specs.Engines.{ours}
 use Rattle.promises.specs.Reasoning.{ReasonOf, Reasoning}
 use Rattle.promises.proofs.Demand1.{reason_obeys, check_obeys}
@@ -68,7 +68,7 @@ module _ (o k : ℕ) (ws : List ℕ) (set x y sign : ℕ) where
       some : eqb (get_or (distances (o + k) (sign_at sign) picked y) x never) never ≡ false
       size_is : length (reason_of picked x y sign (o + k)) ≡ size
 
-    found : (size : ℕ) → (reasoned o k ws set x y sign d l).answer ≡ reasonedAs.Done size
+    found : (size : ℕ) → (reasoned o k ws set x y sign d l).answer ≡ Ok size
         → Found size × ((reasoned o k ws set x y sign d l).list ≡ reason_of picked x y sign (o + k) ++ drop size l) × (size ≤ length l)
         × ((reasoned o k ws set x y sign d l).scratch ≡ filled picked y sign d (o + k))
     found size e =
@@ -88,7 +88,7 @@ module _ (o k : ℕ) (ws : List ℕ) (set x y sign : ℕ) where
           ap (λ (r : ReasonOutcome). r.scratch) q,
         )
 
-    reason_done_lem : (size : ℕ) → (reasoned o k ws set x y sign d l).answer ≡ reasonedAs.Done size
+    reason_done_lem : (size : ℕ) → (reasoned o k ws set x y sign d l).answer ≡ Ok size
         → (r : ReasonOf o k picked x y sign size) × ((reasoned o k ws set x y sign d l).list ≡ written x r.xs r.ys ++ drop size l) × (size ≤ length l)
     reason_done_lem size e =
         let (f, list, room, scratch) = found size e in
@@ -101,28 +101,28 @@ module _ (o k : ℕ) (ws : List ℕ) (set x y sign : ℕ) where
       kind : Kind o k y
       filled_by_lem : (reasoned o k ws set x y sign d l).scratch ≡ filled picked y sign d (o + k)
 
-    scratched : ((r : Refusal) → (reasoned o k ws set x y sign d l).answer ≡ reasonedAs.Refused r → ⊥) → Scratched
+    scratched : ((r : Refusal) → (reasoned o k ws set x y sign d l).answer ≡ Err (reasonedAs.Refused r) → ⊥) → Scratched
     scratched h = at (reasoned o k ws set x y sign d l).answer refl
       where
         at : (a : Reasoned) → (reasoned o k ws set x y sign d l).answer ≡ a → Scratched
-        at (reasonedAs.Done size) e = let (f, list, room, scratch) = found size e in record { net = f.net; kind = f.kind; filled_by_lem = scratch }
-        at reasonedAs.Unsupported e =
+        at (Ok size) e = let (f, list, room, scratch) = found size e in record { net = f.net; kind = f.kind; filled_by_lem = scratch }
+        at (Err reasonedAs.Unsupported) e =
             let u = ((reason_obeys o k ws set x y sign d l).exactly 7).0 (ap (λ (r : Reasoned). (reasoned_reply r).number) e) in
             record {
               net = chosen_of o k ws set ((past_checks o k ws set).0 (u.0, u.1.0, u.1.1.0, u.1.1.1.0));
               kind = kind_of o k x y sign u.1.1.1.1.0;
               filled_by_lem = ap (λ (r : ReasonOutcome). r.scratch) ((reason_obeys o k ws set x y sign d l).leaves 7 u);
             }
-        at (reasonedAs.Short size) e =
+        at (Err (reasonedAs.Short size)) e =
             let u = ((reason_obeys o k ws set x y sign d l).exactly 8).0 (ap (λ (r : Reasoned). (reasoned_reply r).number) e) in
             record {
               net = chosen_of o k ws set ((past_checks o k ws set).0 (u.0, u.1.0, u.1.1.0, u.1.1.1.0));
               kind = kind_of o k x y sign u.1.1.1.1.0;
               filled_by_lem = ap (λ (r : ReasonOutcome). r.scratch) ((reason_obeys o k ws set x y sign d l).leaves 8 u);
             }
-        at (reasonedAs.Refused r) e = absurd (h r e)
+        at (Err (reasonedAs.Refused r)) e = absurd (h r e)
 
-    scratch_right : ((r : Refusal) → (reasoned o k ws set x y sign d l).answer ≡ reasonedAs.Refused r → ⊥) → (v : ℕ) → v < (o + k) + (o + k)
+    scratch_right : ((r : Refusal) → (reasoned o k ws set x y sign d l).answer ≡ Err (reasonedAs.Refused r) → ⊥) → (v : ℕ) → v < (o + k) + (o + k)
         → Distance (Moves (o + k) (Links picked) (sign_at sign)) (goal (o + k) (sign_at sign) y) v (get_or (reasoned o k ws set x y sign d l).scratch v never)
     scratch_right h v i =
         let t = scratched h in
@@ -131,12 +131,12 @@ module _ (o k : ℕ) (ws : List ℕ) (set x y sign : ℕ) where
         ∙ get_or-append (distances (o + k) (sign_at sign) picked y) (drop ((o + k) + (o + k)) d) never v (omega (arith, distances_length (o + k) (sign_at sign) picked y)) in
         rw b (distances_right o k picked t.net y t.kind (sign_at sign) v i)
 
-    reason_unsupported : (reasoned o k ws set x y sign d l).answer ≡ reasonedAs.Unsupported → Supported o k (Links picked) x y (sign_at sign) → ⊥
+    reason_unsupported : (reasoned o k ws set x y sign d l).answer ≡ Err reasonedAs.Unsupported → Supported o k (Links picked) x y (sign_at sign) → ⊥
     reason_unsupported e =
         let u = ((reason_obeys o k ws set x y sign d l).exactly 7).0 (ap (λ (r : Reasoned). (reasoned_reply r).number) e) in
         (clause_7_reason o k picked (chosen_of o k ws set ((past_checks o k ws set).0 (u.0, u.1.0, u.1.1.0, u.1.1.1.0))) x (node_of o k x y sign u.1.1.1.1.0) y (kind_of o k x y sign u.1.1.1.1.0) (sign_at sign)).0 u.1.1.1.1.1.1
 
-    reason_short : (size : ℕ) → (reasoned o k ws set x y sign d l).answer ≡ reasonedAs.Short size → ReasonOf o k picked x y sign size × (length l < size)
+    reason_short : (size : ℕ) → (reasoned o k ws set x y sign d l).answer ≡ Err (reasonedAs.Short size) → ReasonOf o k picked x y sign size × (length l < size)
     reason_short size e =
         let u = ((reason_obeys o k ws set x y sign d l).exactly 8).0 (ap (λ (r : Reasoned). (reasoned_reply r).number) e) in
         let q = (reason_obeys o k ws set x y sign d l).leaves 8 u in
@@ -147,26 +147,29 @@ module _ (o k : ℕ) (ws : List ℕ) (set x y sign : ℕ) where
 
   module _ (l : List ℕ) where
     -- A check that was not refused: over a net, about a kind, and its verdict is the test's.
-    checked : (verdict_reply (verdict o k ws set x y sign l)).number ≡ 0 → Net o k picked × Kind o k y × (verdict o k ws set x y sign l ≡ cond (passes o k picked x y (sign_at sign) l) Holds Fails)
+    checked : (verdict_reply (verdict o k ws set x y sign l)).number ≡ 0 → Net o k picked × Kind o k y × (verdict o k ws set x y sign l ≡ Ok (passes o k picked x y (sign_at sign) l))
     checked e =
         let u = ((check_obeys o k ws set x y sign l).exactly 0).0 e in
         (chosen_of o k ws set ((past_checks o k ws set).0 (u.0, u.1.0, u.1.1.0, u.1.1.1.0)), kind_of o k x y sign u.1.1.1.1.0, (check_obeys o k ws set x y sign l).leaves 0 u)
 
     -- Which verdict it was tells the test.
-    was_true : (q : Bool) → Holds ≡ cond q Holds Fails → q ≡ true
+    abbrev only : Verdict → Verdict
+    only r = r
+
+    was_true : (q : Bool) → only (Ok true) ≡ Ok q → q ≡ true
     was_true true e = refl
     was_true false e = contradiction (ap (λ (r : Verdict). eqb (verdict_reply r).first 0) e)
 
-    was_false : (q : Bool) → Fails ≡ cond q Holds Fails → q ≡ false
+    was_false : (q : Bool) → only (Ok false) ≡ Ok q → q ≡ false
     was_false true e = contradiction (sym (ap (λ (r : Verdict). eqb (verdict_reply r).first 0) e))
     was_false false e = refl
 
-    check_holds : verdict o k ws set x y sign l ≡ Holds → Net o k picked × Passes o k picked x y (sign_at sign) l
+    check_holds : verdict o k ws set x y sign l ≡ Ok true → Net o k picked × Passes o k picked x y (sign_at sign) l
     check_holds e =
         let (net, kind, v) = checked (ap (λ (r : Verdict). (verdict_reply r).number) e) in
         (net, (passes_exactly o k picked x y (sign_at sign) l kind).0 (was_true (passes o k picked x y (sign_at sign) l) (sym e ∙ v)))
 
-    check_fails : verdict o k ws set x y sign l ≡ Fails → Passes o k picked x y (sign_at sign) l → ⊥
+    check_fails : verdict o k ws set x y sign l ≡ Ok false → Passes o k picked x y (sign_at sign) l → ⊥
     check_fails e p =
         let (net, kind, v) = checked (ap (λ (r : Verdict). (verdict_reply r).number) e) in
         contradiction (sym (was_false (passes o k picked x y (sign_at sign) l) (sym e ∙ v)) ∙ (passes_exactly o k picked x y (sign_at sign) l kind).1 p)

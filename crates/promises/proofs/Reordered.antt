@@ -1,5 +1,8 @@
 -- Links stand in any order and a repeated word counts once, for the operations that are neither a scan nor a question: over two nets of which the same words are chosen the completion,
 -- the clash test, the reason and the reason check do the same.
+use Rattle.reason.specs.declared.ReasonError.TheVariants as reasonedAs
+use Rattle.completion.specs.declared.CompletionError.TheVariants as completed
+use Rattle.std.specs.Prelude.{Err}
 use Prim.Native.Nat.{ℕ, zero, suc, ◌+◌, ◌≤◌, ◌<◌}
 use mathlib.Core.Path.{◌≡◌, refl, sym, ap, ◌∙◌}
 use mathlib.Core.Bool.{Bool, true, false}
@@ -28,14 +31,10 @@ use Rattle.net.specs.declared.Refusal.{Refusal}
 use Rattle.net.proofs.NetCheck.{net_is_checked}
 use Rattle.net.proofs.OnNet.{gone_on}
 use Rattle.clash.specs.Table.{ClashOutcome, clash_outcome, clash_nodes, first_clash, clash_search, clash_clauses, clash_done, clashed_by}
-use Rattle.clash.specs.declared.Clashed.{Clashed}
-use Rattle.clash.specs.declared.Clashed.TheVariants as clashed
+use Rattle.clash.specs.Table.{Clashed}
 use Rattle.completion.specs.Table.{CompletionOutcome, completion_outcome, completion_clauses, completion_done, completed_by}
-use Rattle.completion.specs.declared.Completed.TheVariants as completed
 use Rattle.reason.specs.Table.{ReasonOutcome, reason_outcome, filled, reason_of, found_clauses, found_done, reason_clauses, reason_done, reasoned}
-use Rattle.reason.specs.declared.Reasoned.TheVariants as reasonedAs
 use Rattle.reason_check.specs.Table.{check_clauses, check_done, verdict}
-use Rattle.reason_check.specs.declared.Verdict.TheVariants as verdictAs
 use Rattle.promises.specs.Engines.{Read}
 use Rattle.promises.proofs.Tests.{chosen_of}
 use Rattle.promises.proofs.Orders.{after_tests, rounds_same}
@@ -151,7 +150,7 @@ module _ (o k : ℕ) (ws : List ℕ) (set : ℕ) (vs : List ℕ) (set' : ℕ) (n
   -- The completion.
   pub completion_order : (m l : List ℕ) → completed_by o k ws set m l ≡ completed_by o k vs set' m l
   completion_order m l =
-      let refused : Refusal → CompletionOutcome = λ r. completion_outcome (completed.Refused r) m l in
+      let refused : Refusal → CompletionOutcome = λ r. completion_outcome (Err (completed.Refused r)) m l in
       sym (gone_on refused o k ws set (completion_clauses (complete o k left) m l) (completion_done (complete o k left) m l) (net_is_checked o k ws set n.allowed n.net) refl)
       ∙ ap (λ (all : List ℕ). call (completion_clauses all m l (o + k)) (completion_done all m l (o + k))) (complete_same o k left right ln rn to from)
       ∙ gone_on refused o k vs set' (completion_clauses (complete o k right) m l) (completion_done (complete o k right) m l) (net_is_checked o k vs set' p.allowed p.net) refl
@@ -159,7 +158,7 @@ module _ (o k : ℕ) (ws : List ℕ) (set : ℕ) (vs : List ℕ) (set' : ℕ) (n
   -- The clash test.
   pub clash_order : (m : List ℕ) → clashed_by o k ws set m ≡ clashed_by o k vs set' m
   clash_order m =
-      let refused : Refusal → ClashOutcome = λ r. clash_outcome (clashed.Refused r) m in
+      let refused : Refusal → ClashOutcome = λ r. clash_outcome (Err r) m in
       sym (gone_on refused o k ws set (clash_clauses (clash_search o k left) m) (clash_done (clash_search o k left) m) (net_is_checked o k ws set n.allowed n.net) refl)
       ∙ ap (λ (found : Clashed). call (clash_clauses found m (o + k)) (clash_done found m (o + k))) (first_same o k left right ln rn to from 0 (clash_nodes o k) (omega arith))
       ∙ gone_on refused o k vs set' (clash_clauses (clash_search o k right) m) (clash_done (clash_search o k right) m) (net_is_checked o k vs set' p.allowed p.net) refl
@@ -167,7 +166,7 @@ module _ (o k : ℕ) (ws : List ℕ) (set : ℕ) (vs : List ℕ) (set' : ℕ) (n
   -- The reason.
   pub reason_order : (x y sign : ℕ) (d l : List ℕ) → reasoned o k ws set x y sign d l ≡ reasoned o k vs set' x y sign d l
   reason_order x y sign d l =
-      let refused : Refusal → ReasonOutcome = λ r. reason_outcome (reasonedAs.Refused r) d l in
+      let refused : Refusal → ReasonOutcome = λ r. reason_outcome (Err (reasonedAs.Refused r)) d l in
       sym (gone_on refused o k ws set (reason_clauses o left x y sign d l) (reason_done left x y sign d l) (net_is_checked o k ws set n.allowed n.net) refl)
       ∙ after_tests (bad_statement o (o + k) x y sign) (ltb (length d) ((o + k) + (o + k))) _ _ (searched_same o k left right ln rn to from x y sign d l)
       ∙ gone_on refused o k vs set' (reason_clauses o right x y sign d l) (reason_done right x y sign d l) (net_is_checked o k vs set' p.allowed p.net) refl
@@ -175,6 +174,6 @@ module _ (o k : ℕ) (ws : List ℕ) (set : ℕ) (vs : List ℕ) (set' : ℕ) (n
   -- The reason check.
   pub check_order : (x y sign : ℕ) (l : List ℕ) → verdict o k ws set x y sign l ≡ verdict o k vs set' x y sign l
   check_order x y sign l =
-      sym (gone_on verdictAs.Refused o k ws set (check_clauses o x y sign) (λ _. check_done o k left x y sign l) (net_is_checked o k ws set n.allowed n.net) refl)
+      sym (gone_on Err o k ws set (check_clauses o x y sign) (λ _. check_done o k left x y sign l) (net_is_checked o k ws set n.allowed n.net) refl)
       ∙ rw (passes_same o k left right ln rn to from x y (sign_at sign) l)
-      (gone_on verdictAs.Refused o k vs set' (check_clauses o x y sign) (λ _. check_done o k right x y sign l) (net_is_checked o k vs set' p.allowed p.net) refl)
+      (gone_on Err o k vs set' (check_clauses o x y sign) (λ _. check_done o k right x y sign l) (net_is_checked o k vs set' p.allowed p.net) refl)

@@ -1,4 +1,7 @@
 -- Links stand in any order and a repeated word counts once: over two nets of which the same words are chosen the explanation is the same, but for the indices of links.
+use Rattle.explain.specs.declared.ExplainError.TheVariants as explainedAs
+use Rattle.reason.specs.declared.ReasonError.TheVariants as reasonedAs
+use Rattle.std.specs.Prelude.{Err, Ok}
 use Prim.Native.Nat.{ℕ, ◌*◌}
 use mathlib.Core.Path.{◌≡◌, refl, sym, ap, subst, ◌∙◌}
 use mathlib.Core.Bool.{Bool, true, false, cond}
@@ -10,14 +13,12 @@ use Rattle.theory.specs.Words.{isnt}
 use Rattle.theory.specs.Nets.{AllIn}
 use Rattle.theory.specs.Origins.{chosen}
 use Rattle.reason.specs.Table.{ReasonOutcome, reasoned}
-use Rattle.reason.specs.declared.Reasoned.{Reasoned}
-use Rattle.reason.specs.declared.Reasoned.TheVariants as reasonedAs
+use Rattle.reason.specs.Table.{Reasoned}
 use Rattle.derivation_lines.specs.Lines.{Line}
 use Rattle.derivation_lines.specs.Flat.{flat, derive_list}
 use Rattle.derivation_lines.proofs.Flatness.{flat_length}
 use Rattle.explain.specs.Table.{ExplainOutcome, explain_outcome, explained}
 use Rattle.explain.specs.Found.{write_lines, explained_by}
-use Rattle.explain.specs.declared.Explained.TheVariants as explainedAs
 use Rattle.explain.proofs.Found.{explained_by_lem}
 use Rattle.promises.specs.Engines.{Read}
 use Rattle.promises.specs.Origins.{unindexed, SameButIndices}
@@ -28,13 +29,13 @@ use Rattle.promises.proofs.LinesAlike.{plain_line, Alike, alike_length, flat_pla
 -- Written into the list, four places each, or not.
 module _ (size : ℕ) (d m l : List ℕ) where
   abbrev put : ℕ → List ℕ → ExplainOutcome
-  put n out = cond (ltb (length l) (4 * n)) (explain_outcome (explainedAs.ShortLines (4 * n)) d m l) (explain_outcome (explainedAs.Done (4 * n) size) d m out)
+  put n out = cond (ltb (length l) (4 * n)) (explain_outcome (Err (explainedAs.ShortLines (4 * n))) d m l) (explain_outcome (Ok (4 * n, size)) d m out)
 
   put_same : (n : ℕ) (out other : List ℕ) → unindexed out ≡ unindexed other → SameButIndices (put n out) (put n other)
   put_same n out other e = at (ltb (length l) (4 * n))
     where
-      at : (q : Bool) → SameButIndices (cond q (explain_outcome (explainedAs.ShortLines (4 * n)) d m l) (explain_outcome (explainedAs.Done (4 * n) size) d m out))
-          (cond q (explain_outcome (explainedAs.ShortLines (4 * n)) d m l) (explain_outcome (explainedAs.Done (4 * n) size) d m other))
+      at : (q : Bool) → SameButIndices (cond q (explain_outcome (Err (explainedAs.ShortLines (4 * n))) d m l) (explain_outcome (Ok (4 * n, size)) d m out))
+          (cond q (explain_outcome (Err (explainedAs.ShortLines (4 * n))) d m l) (explain_outcome (Ok (4 * n, size)) d m other))
       at true = record { answer = refl; scratch = refl; list = refl; lines = refl }
       at false = record { answer = refl; scratch = refl; list = refl; lines = e }
 
@@ -54,12 +55,12 @@ module _ (o k : ℕ) (ws : List ℕ) (set : ℕ) (vs : List ℕ) (set' : ℕ) (n
   -- By what the reason answered.
   by_answer : (a : Reasoned) (d m l : List ℕ) → SameButIndices (explained_by o set ws a d m l) (explained_by o set' vs a d m l)
   unfolding explained_by
-  by_answer (reasonedAs.Done size) d m l =
+  by_answer (Ok size) d m l =
       written_alike size d m l (derive_list o set ws (take size m)) (derive_list o set' vs (take size m))
       (reason_alike set ws set' vs (λ u v. listed_same o k (chosen set ws) (chosen set' vs) (chosen_of o k ws set n) (chosen_of o k vs set' p) to from u v isnt) o (take size m))
-  by_answer reasonedAs.Unsupported d m l = record { answer = refl; scratch = refl; list = refl; lines = refl }
-  by_answer (reasonedAs.Short needed) d m l = record { answer = refl; scratch = refl; list = refl; lines = refl }
-  by_answer (reasonedAs.Refused r) d m l = record { answer = refl; scratch = refl; list = refl; lines = refl }
+  by_answer (Err reasonedAs.Unsupported) d m l = record { answer = refl; scratch = refl; list = refl; lines = refl }
+  by_answer (Err (reasonedAs.Short needed)) d m l = record { answer = refl; scratch = refl; list = refl; lines = refl }
+  by_answer (Err (reasonedAs.Refused r)) d m l = record { answer = refl; scratch = refl; list = refl; lines = refl }
 
   -- The explanation.
   pub explanation_order : (x y sign : ℕ) (d m l : List ℕ) → SameButIndices (explained o k ws set x y sign d m l) (explained o k vs set' x y sign d m l)

@@ -1,4 +1,7 @@
 -- Links stand in any order and a repeated word counts once: over two nets of which the same words are chosen the proof and the proof check do the same.
+use Rattle.proof_check.specs.declared.JudgeError.TheVariants as judgedAs
+use Rattle.proof.specs.declared.ProofError.TheVariants as provedAs
+use Rattle.std.specs.Prelude.{Err}
 use Prim.Native.Nat.{ℕ, zero, suc, ◌+◌, ◌-◌, ◌*◌, ◌/◌, ◌<◌}
 use mathlib.Core.Path.{◌≡◌, refl, sym, ap, ◌∙◌}
 use mathlib.Core.Bool.{Bool, true, false, cond, ◌&&◌, ◌||◌}
@@ -30,9 +33,7 @@ use Rattle.proof_form.specs.declared.Found.{Found}
 use Rattle.proof_form.specs.declared.Found.TheVariants.{Nowhere}
 use Rattle.proof_form.proofs.Tests.{decides_stands}
 use Rattle.proof.specs.Table.{ProofOutcome, proof_outcome, links_of, proof_of, room_clauses, room_done, proof_clauses, proof_done, proved}
-use Rattle.proof.specs.declared.Proved.TheVariants as provedAs
 use Rattle.proof_check.specs.Table.{fault_clause, judged_clauses, judged_done, judged}
-use Rattle.proof_check.specs.declared.Judged.TheVariants as judgedAs
 use Rattle.promises.specs.Engines.{Read}
 use Rattle.promises.proofs.Tests.{chosen_of}
 use Rattle.promises.proofs.Orders.{after_tests}
@@ -105,7 +106,7 @@ module _ (o k : ℕ) (ws vs : List ℕ) (wn : Net o k ws) (vn : Net o k vs) (to 
   -- Numbers 7, 11, 8 and 0 of a reason with so many links, where `all` is the proof.
   abbrev searched : ℕ → ℕ → List ℕ → List ℕ → List ℕ → ProofOutcome
   searched x links all past l =
-      call (clause 7 (eqb links never) (proof_outcome provedAs.Unsupported past l) ∷ room_clauses (our_depth o x links) all past l) (room_done all past l)
+      call (clause 7 (eqb links never) (proof_outcome (Err provedAs.Unsupported) past l) ∷ room_clauses (our_depth o x links) all past l) (room_done all past l)
 
   module _ (x y sign : ℕ) (d l : List ℕ) (e : bad_statement o (o + k) x y sign ≡ false) where
     abbrev links : ℕ
@@ -131,7 +132,7 @@ module _ (o k : ℕ) (ws vs : List ℕ) (wn : Net o k ws) (vn : Net o k vs) (to 
     written_same : searched x links (proof_of o ws x y sign (o + k)) past l
         ≡ searched x (links_of vs x y sign (o + k)) (proof_of o vs x y sign (o + k)) (filled vs y sign d (o + k)) l
     written_same =
-        after_test (eqb links never) (proof_outcome provedAs.Unsupported past l) (λ f. ap (λ (all : List ℕ). call (room_clauses (our_depth o x links) all past l) (room_done all past l)) (ours_same f))
+        after_test (eqb links never) (proof_outcome (Err provedAs.Unsupported) past l) (λ f. ap (λ (all : List ℕ). call (room_clauses (our_depth o x links) all past l) (room_done all past l)) (ours_same f))
         ∙ ap (λ (t : List ℕ). searched x (get_or t x never) (from_reason o (o + k) vs x y (sign_at sign) (reason_of vs x y sign (o + k)) (get_or t x never)) (t ++ drop ((o + k) + (o + k)) d) l)
         (distances_same o k ws vs wn vn to from y kind (sign_at sign))
 
@@ -139,7 +140,7 @@ module _ (o k : ℕ) (ws vs : List ℕ) (wn : Net o k ws) (vn : Net o k vs) (to 
 module _ (o k : ℕ) (ws : List ℕ) (set : ℕ) (vs : List ℕ) (set' : ℕ) (n : Read o k ws set) (p : Read o k vs set') (to : AllIn (chosen set ws) (chosen set' vs)) (from : AllIn (chosen set' vs) (chosen set ws)) where
   pub proof_order : (x y sign : ℕ) (d l : List ℕ) → proved o k ws set x y sign d l ≡ proved o k vs set' x y sign d l
   proof_order x y sign d l =
-      let refused : Refusal → ProofOutcome = λ r. proof_outcome (provedAs.Refused r) d l in
+      let refused : Refusal → ProofOutcome = λ r. proof_outcome (Err (provedAs.Refused r)) d l in
       sym (gone_on refused o k ws set (proof_clauses o (chosen set ws) x y sign d l) (proof_done o (chosen set ws) x y sign d l) (net_is_checked o k ws set n.allowed n.net) refl)
       ∙ after_tests (bad_statement o (o + k) x y sign) (ltb (length d) ((o + k) + (o + k))) _ _
       (written_same o k (chosen set ws) (chosen set' vs) (chosen_of o k ws set n) (chosen_of o k vs set' p) to from x y sign d l)
@@ -147,7 +148,7 @@ module _ (o k : ℕ) (ws : List ℕ) (set : ℕ) (vs : List ℕ) (set' : ℕ) (n
 
   pub proof_check_order : (x y sign : ℕ) (l : List ℕ) → judged o k ws set x y sign l ≡ judged o k vs set' x y sign l
   proof_check_order x y sign l =
-      sym (gone_on judgedAs.Refused o k ws set (judged_clauses o (chosen set ws) x y sign l) (λ _. judged_done) (net_is_checked o k ws set n.allowed n.net) refl)
-      ∙ ap (λ (z : Found). call (clause 4 (bad_statement o (o + k) x y sign) (judgedAs.Refused BadQuestion) ∷ fault_clause z ∷ []) judged_done)
+      sym (gone_on (λ r. Err (judgedAs.Refused r)) o k ws set (judged_clauses o (chosen set ws) x y sign l) (λ _. judged_done) (net_is_checked o k ws set n.allowed n.net) refl)
+      ∙ ap (λ (z : Found). call (clause 4 (bad_statement o (o + k) x y sign) (Err (judgedAs.Refused BadQuestion)) ∷ fault_clause z ∷ []) judged_done)
       (checked_same (chosen set ws) (chosen set' vs) to from o (o + k) (word x y (sign_at sign)) l)
-      ∙ gone_on judgedAs.Refused o k vs set' (judged_clauses o (chosen set' vs) x y sign l) (λ _. judged_done) (net_is_checked o k vs set' p.allowed p.net) refl
+      ∙ gone_on (λ r. Err (judgedAs.Refused r)) o k vs set' (judged_clauses o (chosen set' vs) x y sign l) (λ _. judged_done) (net_is_checked o k vs set' p.allowed p.net) refl

@@ -1,4 +1,6 @@
 -- Over two nets of which the same words are chosen the completion by rows does the same, in whatever order they stand.
+use Rattle.completion.specs.declared.CompletionError.TheVariants as completed
+use Rattle.std.specs.Prelude.{Err}
 use Prim.Native.Nat.{ℕ, zero, suc, ◌+◌, ◌≤◌}
 use mathlib.Core.Path.{◌≡◌, refl, sym, ap, ◌∙◌}
 use mathlib.Core.Bool.{◌&&◌}
@@ -14,7 +16,6 @@ use Rattle.theory.specs.Rows.{width, answers, words_of, rows_of, supported_rows}
 use Rattle.net.specs.declared.Refusal.{Refusal}
 use Rattle.net.proofs.NetCheck.{net_is_checked}
 use Rattle.net.proofs.OnNet.{gone_on}
-use Rattle.completion.specs.declared.Completed.TheVariants as completed
 use Rattle.rows_completion.specs.Table.{RowsOutcome, rows_outcome, rows_clauses, rows_done, completed_by_rows}
 use Rattle.promises.specs.Engines.{Read}
 use Rattle.promises.proofs.Tests.{chosen_of}
@@ -37,7 +38,7 @@ module _ (o k : ℕ) (ws vs : List ℕ) (n : Net o k ws) (p : Net o k vs) (to : 
 module _ (o k : ℕ) (ws : List ℕ) (set : ℕ) (vs : List ℕ) (set' : ℕ) (n : Read o k ws set) (p : Read o k vs set') (to : AllIn (chosen set ws) (chosen set' vs)) (from : AllIn (chosen set' vs) (chosen set ws)) where
   pub rows_order : (yeses noes l : List ℕ) → completed_by_rows o k ws set yeses noes l ≡ completed_by_rows o k vs set' yeses noes l
   rows_order yeses noes l =
-      let refused : Refusal → RowsOutcome = λ r. rows_outcome (completed.Refused r) yeses noes l in
+      let refused : Refusal → RowsOutcome = λ r. rows_outcome (Err (completed.Refused r)) yeses noes l in
       let ln = chosen_of o k ws set n in
       let rn = chosen_of o k vs set' p in
       sym (gone_on refused o k ws set (rows_clauses o k (chosen set ws) yeses noes l) (rows_done o k (chosen set ws) yeses noes l) (net_is_checked o k ws set n.allowed n.net) refl)

@@ -1,4 +1,7 @@
 -- The marker unit does what is promised of it.
+use Rattle.unit.specs.declared.UnitError.TheVariants as simulatedAs
+use Rattle.scan.specs.declared.ScanError.TheVariants as answer
+use Rattle.std.specs.Prelude.{Err, Ok}
 use Prim.Native.Nat.{ℕ, ◌+◌, ◌-◌, ◌*◌, ◌/◌, ◌≤◌, ◌<◌}
 use mathlib.Core.Path.{◌≡◌, refl, sym, ap, ◌∙◌}
 use mathlib.Core.Bool.{Bool, true, false, cond, not}
@@ -14,8 +17,7 @@ use Rattle.net.specs.declared.Refusal.{Refusal}
 use Rattle.net.proofs.NetCheck.{net_is_checked}
 use Rattle.net.proofs.OnNet.{gone_on}
 use Rattle.scan.specs.Table.{ScanOutcome, scanned, scan_reply}
-use Rattle.scan.specs.declared.Scanned.{Scanned}
-use Rattle.scan.specs.declared.Scanned.TheVariants as answer
+use Rattle.scan.specs.Table.{Scanned}
 use Rattle.unit_program.specs.Faults.{first_fault}
 use Rattle.unit_program.specs.Wrong.{FirstWrong}
 use Rattle.unit_program.specs.Runs.{run}
@@ -26,8 +28,7 @@ use Rattle.unit_program.proofs.Stepping.{run_steps}
 use Rattle.unit_program.proofs.Determined.{runs_unique}
 use Rattle.unit_program.proofs.MergedScan.{merged_sound}
 use Rattle.unit.specs.Table.{UnitOutcome, unit_outcome, told_place, unit_clauses, unit_done, simulated, simulated_reply}
-use Rattle.unit.specs.declared.Simulated.{Simulated}
-use Rattle.unit.specs.declared.Simulated.TheVariants as simulatedAs
+use Rattle.unit.specs.Table.{Simulated}
 use Rattle.unit.proofs.Outcomes.{told_near}
 use Rattle.unit.proofs.Merged.{merged_simulated, merged_short, merged_as_scan}
 use Rattle.promises.specs.Engines.{Read, ours}
@@ -39,17 +40,17 @@ use Rattle.promises.proofs.PlainUnit.{whole, faulty_exactly, sound_exactly, unit
 module _ (o k : ℕ) (ws : List ℕ) (set : ℕ) (program : List ℕ) (budget : ℕ) (m : List ℕ) (read : Read o k ws set) (room : o + k ≤ length m) where
   -- Done or spent, with the marks z: the answer decides.
   told : (d : Bool) (count : ℕ) (z : List ℕ)
-      → cond (not d) (unit_outcome (simulatedAs.Spent budget) z) (unit_outcome (simulatedAs.Done count) z) ≡ unit_outcome (cond d (simulatedAs.Done count) (simulatedAs.Spent budget)) z
+      → cond (not d) (unit_outcome (Err (simulatedAs.Spent budget)) z) (unit_outcome (Ok count) z) ≡ unit_outcome (cond d (Ok count) (Err (simulatedAs.Spent budget))) z
   told true count z = refl
   told false count z = refl
 
   -- What the steps come to.
   steps_given : ((p : ℕ) → FirstWrong (o + k) program p → ⊥) → (r : Scan) → Runs (o + k) (chosen set ws) program budget (take (o + k) m) r
-      → simulated o k ws set program budget m ≡ unit_outcome (cond r.done (simulatedAs.Done r.count) (simulatedAs.Spent budget)) (r.marks ++ drop (o + k) m)
+      → simulated o k ws set program budget m ≡ unit_outcome (cond r.done (Ok r.count) (Err (simulatedAs.Spent budget))) (r.marks ++ drop (o + k) m)
   steps_given h r s =
-      let refused : Refusal → UnitOutcome = λ q. unit_outcome (simulatedAs.Refused q) m in
+      let refused : Refusal → UnitOutcome = λ q. unit_outcome (Err (simulatedAs.Refused q)) m in
       let sound : ltb (first_fault (o + k) program) (length program) ≡ false = (sound_exactly (o + k) program).1 h in
-      let given : Scan → UnitOutcome = λ q. cond (not q.done) (unit_outcome (simulatedAs.Spent budget) (q.marks ++ drop (o + k) m)) (unit_outcome (simulatedAs.Done q.count) (q.marks ++ drop (o + k) m)) in
+      let given : Scan → UnitOutcome = λ q. cond (not q.done) (unit_outcome (Err (simulatedAs.Spent budget)) (q.marks ++ drop (o + k) m)) (unit_outcome (Ok q.count) (q.marks ++ drop (o + k) m)) in
       let goes : given (run (o + k) (chosen set ws) program budget (take (o + k) m)) ≡ simulated o k ws set program budget m =
       gone_on refused o k ws set (unit_clauses (chosen set ws) program budget m) (unit_done (chosen set ws) program budget m) (net_is_checked o k ws set read.allowed read.net)
       (rw (le-ltb (length m) (o + k) room, sound)) in
@@ -58,16 +59,16 @@ module _ (o k : ℕ) (ws : List ℕ) (set : ℕ) (program : List ℕ) (budget : 
       ∙ told r.done r.count (r.marks ++ drop (o + k) m)
 
   -- The first place at fault.
-  fault_given : (p : ℕ) → FirstWrong (o + k) program p → p ≤ 4294967295 → simulated o k ws set program budget m ≡ unit_outcome (simulatedAs.Faulty p) m
+  fault_given : (p : ℕ) → FirstWrong (o + k) program p → p ≤ 4294967295 → simulated o k ws set program budget m ≡ unit_outcome (Err (simulatedAs.Faulty p)) m
   fault_given p w h =
       let due = ((unit_obeys o k ws set program budget m).exactly 16).0 ((unit_16 o k ws set program budget m).1 (read, (room, (p, w)))) in
       let below = ltb-true (first_fault (o + k) program) (length program) ((faulty_exactly (o + k) program).1 (p, w)) in
       (unit_obeys o k ws set program budget m).leaves 16 due
-      ∙ ap (λ (q : ℕ). unit_outcome (simulatedAs.Faulty (told_place q)) m) (first_wrong_unique (o + k) program (first_fault (o + k) program) p (first_wrong (o + k) program below) w)
-      ∙ ap (λ (q : ℕ). unit_outcome (simulatedAs.Faulty q) m) (sym (told_near p h))
+      ∙ ap (λ (q : ℕ). unit_outcome (Err (simulatedAs.Faulty (told_place q))) m) (first_wrong_unique (o + k) program (first_fault (o + k) program) p (first_wrong (o + k) program below) w)
+      ∙ ap (λ (q : ℕ). unit_outcome (Err (simulatedAs.Faulty q)) m) (sym (told_near p h))
 
 -- The written program, where the scan is done.
-module _ (o k : ℕ) (ws : List ℕ) (set x budget : ℕ) (m : List ℕ) (count : ℕ) (e : (scanned o k ws set x (full_budget (o + k)) m).answer ≡ answer.Done count) where
+module _ (o k : ℕ) (ws : List ℕ) (set x budget : ℕ) (m : List ℕ) (count : ℕ) (e : (scanned o k ws set x (full_budget (o + k)) m).answer ≡ Ok count) where
   -- What that scan was.
   record ScanWas : Type 0 where
     read : Read o k ws set
@@ -89,14 +90,14 @@ module _ (o k : ℕ) (ws : List ℕ) (set x budget : ℕ) (m : List ℕ) (count 
       }
 
   written_given : 3 + 5 * count ≤ budget
-      → simulated o k ws set (merged x) budget m ≡ unit_outcome (simulatedAs.Done (3 + 5 * count)) (scanned o k ws set x (full_budget (o + k)) m).marks
+      → simulated o k ws set (merged x) budget m ≡ unit_outcome (Ok (3 + 5 * count)) (scanned o k ws set x (full_budget (o + k)) m).marks
   written_given h =
       let t = was.counted in
       merged_simulated o k ws set was.read.allowed was.read.net x was.node m was.room budget (omega (arith, t, h))
-      ∙ ap (λ (q : ℕ). unit_outcome (simulatedAs.Done (3 + 5 * q)) ((full_scan (o + k) (chosen set ws) x).marks ++ drop (o + k) m)) t
-      ∙ ap (λ (z : List ℕ). unit_outcome (simulatedAs.Done (3 + 5 * count)) z) (sym was.left)
+      ∙ ap (λ (q : ℕ). unit_outcome (Ok (3 + 5 * q)) ((full_scan (o + k) (chosen set ws) x).marks ++ drop (o + k) m)) t
+      ∙ ap (λ (z : List ℕ). unit_outcome (Ok (3 + 5 * count)) z) (sym was.left)
 
-  short_given : budget < 3 + 5 * count → (simulated o k ws set (merged x) budget m).answer ≡ simulatedAs.Spent budget
+  short_given : budget < 3 + 5 * count → (simulated o k ws set (merged x) budget m).answer ≡ Err (simulatedAs.Spent budget)
   short_given h =
       let t = was.counted in
       merged_short o k ws set was.read.allowed was.read.net x was.node m was.room budget (omega (arith, t, h))
@@ -113,18 +114,18 @@ module _ (o k : ℕ) (ws : List ℕ) (set x budget : ℕ) (m : List ℕ) (read :
   sound = ap (λ (i : ℕ). ltb i (length (merged x))) (merged_sound (o + k) x node read.net.few)
 
   -- What the unit answers, by its run.
-  by_run : (simulated o k ws set (merged x) budget m).answer ≡ cond ran.done (simulatedAs.Done ran.count) (simulatedAs.Spent budget)
+  by_run : (simulated o k ws set (merged x) budget m).answer ≡ cond ran.done (Ok ran.count) (Err (simulatedAs.Spent budget))
   by_run =
       ap (λ (q : UnitOutcome). q.answer)
       (steps_given o k ws set (merged x) budget m read room ((sound_exactly (o + k) (merged x)).0 sound) ran
       (run_steps (o + k) (chosen set ws) (merged x) (whole (o + k) (merged x) sound) budget (take (o + k) m)))
 
-  spent_only : (d : Bool) (count : ℕ) → cond d (simulatedAs.Done count) (simulatedAs.Spent budget) ≡ simulatedAs.Spent budget → d ≡ false
+  spent_only : (d : Bool) (count : ℕ) → cond d (Ok count) (Err (simulatedAs.Spent budget)) ≡ Err (simulatedAs.Spent budget) → d ≡ false
   spent_only true count e = absurd (omega (arith, ap (λ (r : Simulated). (simulated_reply r).number) e))
   spent_only false count e = refl
 
   -- The scan is spent exactly if it is not done within its rounds.
-  scan_spent_lem : ((scanned o k ws set x rounds m).answer ≡ answer.Spent rounds) ↔ ((scan (o + k) (chosen set ws) x rounds).done ≡ false)
+  scan_spent_lem : ((scanned o k ws set x rounds m).answer ≡ Err (answer.Spent rounds)) ↔ ((scan (o + k) (chosen set ws) x rounds).done ≡ false)
   scan_spent_lem = (
     (λ e. not-true (scan (o + k) (chosen set ws) x rounds).done (((scan_obeys o k ws set x rounds m).exactly 6).0 (ap (λ (r : Scanned). (scan_reply r).number) e)).1.1.1.1.1.1),
     λ e.
@@ -133,11 +134,11 @@ module _ (o k : ℕ) (ws : List ℕ) (set x budget : ℕ) (m : List ℕ) (read :
         ((scan_obeys o k ws set x rounds m).leaves 6 (t.0, (t.1, (t.2, (t.3, (lt-leb (o + k) x node, (le-ltb (length m) (o + k) room, rw e))))))),
   )
 
-  matching_given : ((simulated o k ws set (merged x) budget m).answer ≡ simulatedAs.Spent budget) ↔ ((scanned o k ws set x rounds m).answer ≡ answer.Spent rounds)
+  matching_given : ((simulated o k ws set (merged x) budget m).answer ≡ Err (simulatedAs.Spent budget)) ↔ ((scanned o k ws set x rounds m).answer ≡ Err (answer.Spent rounds))
   matching_given =
       let same = merged_as_scan o k ws set read.allowed read.net x node m room budget in (
         (λ e. scan_spent_lem.1 (sym same ∙ spent_only ran.done ran.count (sym by_run ∙ e))),
-        λ e. by_run ∙ ap (λ (d : Bool). cond d (simulatedAs.Done ran.count) (simulatedAs.Spent budget)) (same ∙ scan_spent_lem.0 e),
+        λ e. by_run ∙ ap (λ (d : Bool). cond d (Ok ran.count) (Err (simulatedAs.Spent budget))) (same ∙ scan_spent_lem.0 e),
       )
 
 pub simulating : Simulating ours

@@ -5,45 +5,44 @@ use mathlib.Core.Path.{◌≡◌, refl, sym, ap, ◌∙◌}
 use mathlib.Core.List.{List, ◌++◌}
 use lib.ListN.{length, drop}
 use Rattle.check_word.specs.Table.{check_word}
-use Rattle.check_word.specs.declared.WordChecked.{WordChecked}
+use Rattle.check_word.specs.Table.{WordChecked}
 use Rattle.net.specs.Table.{check_net}
-use Rattle.net.specs.declared.Checked.{Checked}
+use Rattle.net.specs.Table.{Checked}
 use Rattle.scan.specs.Table.{ScanOutcome, scan_outcome, scanned}
-use Rattle.scan.specs.declared.Scanned.{Scanned}
+use Rattle.scan.specs.Table.{Scanned}
 use Rattle.question.specs.Table.{QuestionOutcome, question_outcome, questioned}
 use Rattle.questions.specs.Table.{QuestionsOutcome, questions_outcome, questioned_all}
-use Rattle.questions.specs.declared.AskedAll.{AskedAll}
+use Rattle.questions.specs.Table.{AskedAll}
 use Rattle.clash.specs.Table.{ClashOutcome, clash_outcome, clashed_by}
-use Rattle.question.specs.declared.Asked.{Asked}
-use Rattle.clash.specs.declared.Clashed.{Clashed}
+use Rattle.question.specs.Table.{Asked}
+use Rattle.clash.specs.Table.{Clashed}
 use Rattle.completion.specs.Table.{CompletionOutcome, completion_outcome, completed_by}
-use Rattle.completion.specs.declared.Completed.{Completed}
+use Rattle.completion.specs.Table.{Completed}
 use Rattle.compact.specs.Table.{CompactionOutcome, compaction_outcome, compacted_by}
-use Rattle.compact.specs.declared.CompactedList.{CompactedList}
+use Rattle.compact.specs.Table.{CompactedList}
 use Rattle.mend.specs.Table.{MendingOutcome, mending_outcome, mended_by}
-use Rattle.mend.specs.declared.MendedNet.{MendedNet}
+use Rattle.mend.specs.Table.{MendedNet}
 use Rattle.reason.specs.Table.{ReasonOutcome, reason_outcome, reasoned}
-use Rattle.reason.specs.declared.Reasoned.{Reasoned}
+use Rattle.reason.specs.Table.{Reasoned}
 use Rattle.reason_check.specs.Table.{verdict}
-use Rattle.reason_check.specs.declared.Verdict.{Verdict}
+use Rattle.reason_check.specs.Table.{Verdict}
 use Rattle.proof.specs.Table.{ProofOutcome, proof_outcome, proved}
-use Rattle.proof.specs.declared.Proved.{Proved}
+use Rattle.proof.specs.Table.{Proved}
 use Rattle.proof_check.specs.Table.{judged}
-use Rattle.proof_check.specs.declared.Judged.{Judged}
+use Rattle.proof_check.specs.Table.{Judged}
 use Rattle.explain.specs.Table.{ExplainOutcome, explain_outcome, explained}
-use Rattle.explain.specs.declared.Explained.{Explained}
+use Rattle.explain.specs.Table.{Explained}
 use Rattle.derivation_check.specs.Table.{lines_verdict}
 use Rattle.unit.specs.Table.{UnitOutcome, unit_outcome, simulated}
-use Rattle.unit.specs.declared.Simulated.{Simulated}
+use Rattle.unit.specs.Table.{Simulated}
 use Rattle.valuation.specs.Table.{ValuationOutcome, valuation_outcome, filled_by}
-use Rattle.valuation.specs.declared.Filled.{Filled}
+use Rattle.valuation.specs.Table.{Filled}
 use Rattle.satisfies.specs.Table.{tested_by}
-use Rattle.satisfies.specs.declared.Tested.{Tested}
+use Rattle.satisfies.specs.Table.{Tested}
 use Rattle.rows_completion.specs.Table.{RowsOutcome, rows_outcome, completed_by_rows}
 use Rattle.rows_answer.specs.Table.{answered_in_rows}
-use Rattle.rows_answer.specs.declared.Answered.{Answered}
-use Rattle.netfile.specs.Contents.{contents_of, bodies_of}
-use Rattle.netfile.specs.declared.Contents.{Contents}
+use Rattle.rows_answer.specs.Table.{Answered}
+use Rattle.netfile.specs.Contents.{Contents, contents_of, bodies_of}
 use Rattle.ask_text.specs.Text.{text_of}
 use Rattle.net.specs.Clauses.{Clause}
 use Rattle.promises.specs.Tables.{Obeys}

@@ -1,4 +1,5 @@
 -- Our engine keeps what is promised of valuations.
+use Rattle.std.specs.Prelude.{Ok, false, true}
 use Prim.Native.Nat.{ℕ, ◌+◌, ◌*◌, ◌≤◌, ◌<◌}
 use mathlib.Core.Path.{◌≡◌, sym, ap, subst, ◌∙◌}
 use mathlib.Core.List.{List, Memᴰ}
@@ -24,16 +25,13 @@ use Rattle.scan_start.specs.Starts.{cleared}
 use Rattle.question.specs.Table.{answer_number}
 use Rattle.question.specs.declared.Answer.{Answer}
 use Rattle.question.specs.declared.Answer.TheVariants.{None}
-use Rattle.question.specs.declared.Asked.TheVariants as asked
 use Rattle.question.specs.Table.{questioned}
 use Rattle.valuation.specs.Values.{own_values}
 use Rattle.valuation.specs.Table.{ValuationOutcome, filled_by, filled_reply}
-use Rattle.valuation.specs.declared.Filled.{Filled}
-use Rattle.valuation.specs.declared.Filled.TheVariants as filled
+use Rattle.valuation.specs.Table.{Filled}
 use Rattle.valuation.proofs.Rows.{own_long}
 use Rattle.valuation.proofs.Exact.{filled_byte, filled_valued, filled_exactly, filled_model}
 use Rattle.satisfies.specs.Table.{tested_by}
-use Rattle.satisfies.specs.declared.Tested.TheVariants.{Holds, Fails}
 use Rattle.satisfies.proofs.Exactly.{test_holds_exactly, test_fails_exactly}
 use Rattle.promises.specs.Engines.{Read, ours}
 use Rattle.promises.specs.Valuing.{Valuing}
@@ -54,7 +52,7 @@ module _ (o k : ℕ) (ws : List ℕ) (set : ℕ) (t m : List ℕ) where
     table_is : (filled_by o k ws set t m).table ≡ over (own_values o k picked) t
     marks_are : (filled_by o k ws set t m).marks ≡ cleared (o + k) m
 
-  was_filled : (filled_by o k ws set t m).answer ≡ filled.Done → WasFilled
+  was_filled : (filled_by o k ws set t m).answer ≡ Ok tt → WasFilled
   was_filled e =
       let d = ((valuation_obeys o k ws set t m).exactly 0).0 (ap (λ (r : Filled). (filled_reply r).number) e) in
       let l = (valuation_obeys o k ws set t m).leaves 0 d in
@@ -67,12 +65,12 @@ module _ (o k : ℕ) (ws : List ℕ) (set : ℕ) (t m : List ℕ) where
         marks_are = ap (λ (r : ValuationOutcome). r.marks) l;
       }
 
-  given : Read o k ws set → (o + k) * k ≤ length t → o + k ≤ length m → (filled_by o k ws set t m).answer ≡ filled.Done
+  given : Read o k ws set → (o + k) * k ≤ length t → o + k ≤ length m → (filled_by o k ws set t m).answer ≡ Ok tt
   given r h l =
       let p = (past_checks o k ws set).1 r in
       rw (p.0, p.1, p.2, p.3, le-ltb (length m) (o + k) l, le-ltb (length t) ((o + k) * k) h)
 
-  module _ (e : (filled_by o k ws set t m).answer ≡ filled.Done) where
+  module _ (e : (filled_by o k ws set t m).answer ≡ Ok tt) where
     abbrev table : List ℕ
     table = (filled_by o k ws set t m).table
 
@@ -93,7 +91,7 @@ module _ (o k : ℕ) (ws : List ℕ) (set : ℕ) (t m : List ℕ) where
           f.marks_are,
         )
 
-    byte : (x y : ℕ) (l : List ℕ) (a : Answer) (count : ℕ) → (questioned o k ws set x y l).answer ≡ asked.Done a count → byte_at o k table x y ≡ answer_number a
+    byte : (x y : ℕ) (l : List ℕ) (a : Answer) (count : ℕ) → (questioned o k ws set x y l).answer ≡ Ok (a, count) → byte_at o k table x y ≡ answer_number a
     byte x y l a count q =
         let h = question_answered o k ws set x y l a count q in
         carried (λ (v : List ℕ). byte_at o k v x y ≡ answer_number a) (filled_byte o k picked t (was_filled e).long x y h.node h.kind ∙ ap answer_number h.word)
@@ -108,19 +106,19 @@ module _ (o k : ℕ) (ws : List ℕ) (set : ℕ) (t m : List ℕ) where
         let f = was_filled e in
         carried (λ (v : List ℕ). Model (Links picked) (table_valuation o k v)) (filled_model o k picked t f.long f.net)
 
-    joined : (x y sign : ℕ) → GoodStatement o (o + k) x y sign → (tested_by o k table x y sign ≡ Holds) ↔ Supported o k (Links picked) x y (sign_at sign)
+    joined : (x y sign : ℕ) → GoodStatement o (o + k) x y sign → (tested_by o k table x y sign ≡ Ok true) ↔ Supported o k (Links picked) x y (sign_at sign)
     joined x y sign g =
         let x-means = exact x y (sign_at sign) g.pair.node (good_kind g.pair) in
         let tests = test_holds_exactly o k table x y sign in
         ((λ h. x-means.0 (tests.0 h).1), λ p. tests.1 (((was_filled e).few, g, valued), x-means.1 p))
 
     -- A statement that is not supported fails.
-    denied : (x y sign : ℕ) → GoodStatement o (o + k) x y sign → (Supported o k (Links picked) x y (sign_at sign) → ⊥) → tested_by o k table x y sign ≡ Fails
+    denied : (x y sign : ℕ) → GoodStatement o (o + k) x y sign → (Supported o k (Links picked) x y (sign_at sign) → ⊥) → tested_by o k table x y sign ≡ Ok false
     denied x y sign g n =
         (test_fails_exactly o k table x y sign).1
         (((was_filled e).few, g, valued), λ h. n ((exact x y (sign_at sign) g.pair.node (good_kind g.pair)).0 h))
 
-    none : (x y : ℕ) (l : List ℕ) (count : ℕ) → (questioned o k ws set x y l).answer ≡ asked.Done None count → (tested_by o k table x y 0 ≡ Fails) × (tested_by o k table x y 1 ≡ Fails)
+    none : (x y : ℕ) (l : List ℕ) (count : ℕ) → (questioned o k ws set x y l).answer ≡ Ok (None, count) → (tested_by o k table x y 0 ≡ Ok false) × (tested_by o k table x y 1 ≡ Ok false)
     none x y l count q =
         let h = question_answered o k ws set x y l None count q in
         let good : (sign : ℕ) → sign ≤ 1 → GoodStatement o (o + k) x y sign = λ sign i. record { pair = record { node = h.node; low = h.kind.low; high = h.kind.high }; signed = i } in
@@ -128,7 +126,7 @@ module _ (o k : ℕ) (ws : List ℕ) (set : ℕ) (t m : List ℕ) where
         (denied x y 0 (good 0 (omega arith)) (not-said is), denied x y 1 (good 1 (omega arith)) (not-said isnt))
 
 -- A table on which every word passes is one in which all links hold.
-links_hold : (o k : ℕ) (ws t : List ℕ) → ((w : ℕ) → Memᴰ w ws → tested_by o k t (tail_of w) (head_of w) (parity w) ≡ Holds) → Model (Links ws) (table_valuation o k t)
+links_hold : (o k : ℕ) (ws t : List ℕ) → ((w : ℕ) → Memᴰ w ws → tested_by o k t (tail_of w) (head_of w) (parity w) ≡ Ok true) → Model (Links ws) (table_valuation o k t)
 links_hold o k ws t f x y s l =
     let h = ((test_holds_exactly o k t (tail_of l.it) (head_of l.it) (parity l.it)).0 (f l.it l.listed)).1 in
     let signs : sign_at (parity l.it) ≡ s = ap sign_at l.sign ∙ sign_at_number s in

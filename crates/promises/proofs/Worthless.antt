@@ -1,4 +1,5 @@
 -- Each of the four worthless engines, and the one that looks right, breaks a demand; the input at which it does stands in its proof.
+use Rattle.std.specs.Prelude.{Ok, Err}
 use Prim.Native.Nat.{ℕ, ◌+◌, ◌≤◌}
 use mathlib.Core.Path.{◌≡◌, refl, sym, ap, subst, ◌∙◌}
 use mathlib.Core.Bool.{false}
@@ -23,11 +24,9 @@ use Rattle.net.specs.Table.{check_net}
 use Rattle.net.specs.declared.Refusal.{Refusal}
 use Rattle.net.proofs.Replies.{refusal_not}
 use Rattle.scan.specs.Table.{ScanOutcome, scan_outcome, scanned}
-use Rattle.scan.specs.declared.Scanned.TheVariants as answer
 use Rattle.question.specs.Table.{asked_reply}
 use Rattle.question.specs.declared.Answer.TheVariants.{None}
-use Rattle.question.specs.declared.Asked.{Asked}
-use Rattle.question.specs.declared.Asked.TheVariants as asked
+use Rattle.question.specs.Table.{Asked}
 use Rattle.promises.specs.Tables.{Due}
 use Rattle.question.specs.Table.{question_table}
 use Rattle.promises.specs.Engines.{Engine, Read, HasZero}
@@ -47,7 +46,7 @@ unfolding chosen passing
 nothing_wrong = (refl, (refl, (refl, (refl, (refl, (refl, refl))))))
 
 -- An engine that refuses that question breaks demand 1.
-pub refusing_breaks : (e : Engine) (r : Refusal) → (e.question 0 1 [] 15 0 0 (blank 1)).answer ≡ asked.Refused r → Demand1 e → ⊥
+pub refusing_breaks : (e : Engine) (r : Refusal) → (e.question 0 1 [] 15 0 0 (blank 1)).answer ≡ Err r → Demand1 e → ⊥
 refusing_breaks e r h d =
     contradiction
     (sym (refusal_not r 0 refl)
@@ -60,12 +59,12 @@ refuser_breaks r = refusing_breaks (refuser r) r refl
 -- ── one that answers none to everything ──
 
 -- Net M, question (0, 4).
-denies : (denier.question 2 4 M 15 0 4 (blank 6)).answer ≡ asked.Done None 5
+denies : (denier.question 2 4 M 15 0 4 (blank 6)).answer ≡ Ok (None, 5)
 unfolding check_net chosen passing rounds same round command links link mark
 denies = refl
 
 -- But 0 ↛ 4 is supported: an engine that answers none to that question breaks demand 2.
-pub denying_breaks : (e : Engine) (count : ℕ) → (e.question 2 4 M 15 0 4 (blank 6)).answer ≡ asked.Done None count → Demand2 e → ⊥
+pub denying_breaks : (e : Engine) (count : ℕ) → (e.question 2 4 M 15 0 4 (blank 6)).answer ≡ Ok (None, count) → Demand2 e → ⊥
 unfolding chosen
 denying_breaks e count h d = contradiction ((d.question 2 4 M 15 0 4 (blank 6) None count h isnt).1 nought_is_not_four)
 
@@ -126,7 +125,7 @@ unfolding round command links link mark
 no_F_yet = refl
 
 -- But 0 ↛ 4 is supported: an engine that leaves the marks of the first round there breaks demand 2, whatever count it reports.
-pub one_round_breaks : (e : Engine) (count : ℕ) → e.scan 2 4 M 15 0 17 (blank 6) ≡ scan_outcome (answer.Done count) (round commands M (scan_start 6 0)) → Demand2 e → ⊥
+pub one_round_breaks : (e : Engine) (count : ℕ) → e.scan 2 4 M 15 0 17 (blank 6) ≡ scan_outcome (Ok count) (round commands M (scan_start 6 0)) → Demand2 e → ⊥
 unfolding chosen
 one_round_breaks e count h d =
     contradiction
@@ -136,7 +135,7 @@ one_round_breaks e count h d =
 
 -- The engine that invents counts leaves these marks.
 stops_early : (invented : ℕ → ℕ → List ℕ → ℕ → ℕ → ℕ → List ℕ → ℕ)
-    → (inventor invented).scan 2 4 M 15 0 17 (blank 6) ≡ scan_outcome (answer.Done (invented 2 4 M 15 0 17 (blank 6))) (round commands M (scan_start 6 0))
+    → (inventor invented).scan 2 4 M 15 0 17 (blank 6) ≡ scan_outcome (Ok (invented 2 4 M 15 0 17 (blank 6))) (round commands M (scan_start 6 0))
 unfolding chosen passing rounds same round command links link mark
 stops_early invented = refl
 
@@ -145,33 +144,33 @@ pub inventor_breaks : (invented : ℕ → ℕ → List ℕ → ℕ → ℕ → �
 inventor_breaks invented = one_round_breaks (inventor invented) (invented 2 4 M 15 0 17 (blank 6)) (stops_early invented)
 
 -- An engine that reports another count than the machine's breaks demand 2 by the rounds alone, whatever its marks are.
-pub miscounting_breaks : (e : Engine) (o k : ℕ) (ws : List ℕ) (set x budget : ℕ) (m : List ℕ) (count c : ℕ) → (e.scan o k ws set x budget m).answer ≡ answer.Done count
+pub miscounting_breaks : (e : Engine) (o k : ℕ) (ws : List ℕ) (set x budget : ℕ) (m : List ℕ) (count c : ℕ) → (e.scan o k ws set x budget m).answer ≡ Ok count
     → Count commands (chosen set ws) (scan_start (o + k) x) c → (count ≡ c → ⊥) → Demand2 e → ⊥
 miscounting_breaks e o k ws set x budget m count c h n differ d =
     differ (count_unique commands (chosen set ws) (scan_start (o + k) x) count c (d.scan_rounds o k ws set x budget m count h).0 n)
 
 -- One kind, from 0: without words the count is 1, and with word 1 it is 2; in both the first round sets all there is to set.
-count_1 : (scanned 0 1 [] 15 0 2 (blank 1)).answer ≡ answer.Done 1
+count_1 : (scanned 0 1 [] 15 0 2 (blank 1)).answer ≡ Ok 1
 unfolding check_net chosen passing after rounds same round command links link mark
 count_1 = refl
 
-count_2 : (scanned 0 1 (1 ∷ []) 15 0 2 (blank 1)).answer ≡ answer.Done 2
+count_2 : (scanned 0 1 (1 ∷ []) 15 0 2 (blank 1)).answer ≡ Ok 2
 unfolding check_net chosen passing after rounds same round command links link mark
 count_2 = refl
 
 -- One number is not both counts: an engine that reports the same number in both breaks demand 2.
-pub one_number_breaks : (e : Engine) (c : ℕ) → (e.scan 0 1 [] 15 0 2 (blank 1)).answer ≡ answer.Done c → (e.scan 0 1 (1 ∷ []) 15 0 2 (blank 1)).answer ≡ answer.Done c
+pub one_number_breaks : (e : Engine) (c : ℕ) → (e.scan 0 1 [] 15 0 2 (blank 1)).answer ≡ Ok c → (e.scan 0 1 (1 ∷ []) 15 0 2 (blank 1)).answer ≡ Ok c
     → Demand2 e → ⊥
 one_number_breaks e c h g d =
     miscounting_breaks e 0 1 [] 15 0 2 (blank 1) c 1 h (demand_2.scan_rounds 0 1 [] 15 0 2 (blank 1) 1 count_1).0
     (λ p. miscounting_breaks e 0 1 (1 ∷ []) 15 0 2 (blank 1) c 2 g (demand_2.scan_rounds 0 1 (1 ∷ []) 15 0 2 (blank 1) 2 count_2).0 (λ q. omega arith) d) d
 
 -- What is invented there is what the engine reports.
-reports_1 : (invented : ℕ → ℕ → List ℕ → ℕ → ℕ → ℕ → List ℕ → ℕ) → ((inventor invented).scan 0 1 [] 15 0 2 (blank 1)).answer ≡ answer.Done (invented 0 1 [] 15 0 2 (blank 1))
+reports_1 : (invented : ℕ → ℕ → List ℕ → ℕ → ℕ → ℕ → List ℕ → ℕ) → ((inventor invented).scan 0 1 [] 15 0 2 (blank 1)).answer ≡ Ok (invented 0 1 [] 15 0 2 (blank 1))
 unfolding chosen passing rounds same round command links link mark
 reports_1 invented = refl
 
-reports_2 : (invented : ℕ → ℕ → List ℕ → ℕ → ℕ → ℕ → List ℕ → ℕ) → ((inventor invented).scan 0 1 (1 ∷ []) 15 0 2 (blank 1)).answer ≡ answer.Done (invented 0 1 (1 ∷ []) 15 0 2 (blank 1))
+reports_2 : (invented : ℕ → ℕ → List ℕ → ℕ → ℕ → ℕ → List ℕ → ℕ) → ((inventor invented).scan 0 1 (1 ∷ []) 15 0 2 (blank 1)).answer ≡ Ok (invented 0 1 (1 ∷ []) 15 0 2 (blank 1))
 unfolding chosen passing rounds same round command links link mark
 reports_2 invented = refl
 
@@ -182,11 +181,11 @@ invented_count_breaks c = let one : ℕ → ℕ → List ℕ → ℕ → ℕ →
 -- ── one that updates marks inside a command ──
 
 -- Net M from 0: it counts 4 rounds, and the machine 5.
-counts_4 : hasty.scan 2 4 M 15 0 17 (blank 6) ≡ scan_outcome (answer.Done 4) (5 ∷ 2 ∷ 4 ∷ 2 ∷ 2 ∷ 2 ∷ [])
+counts_4 : hasty.scan 2 4 M 15 0 17 (blank 6) ≡ scan_outcome (Ok 4) (5 ∷ 2 ∷ 4 ∷ 2 ∷ 2 ∷ 2 ∷ [])
 unfolding chosen passing same hasty_rounds hasty_round hasty_links link mark
 counts_4 = refl
 
-counts_5 : scanned 2 4 M 15 0 17 (blank 6) ≡ scan_outcome (answer.Done 5) (5 ∷ 2 ∷ 4 ∷ 2 ∷ 2 ∷ 2 ∷ [])
+counts_5 : scanned 2 4 M 15 0 17 (blank 6) ≡ scan_outcome (Ok 5) (5 ∷ 2 ∷ 4 ∷ 2 ∷ 2 ∷ 2 ∷ [])
 unfolding chosen passing rounds same round command links link mark
 counts_5 = refl
 

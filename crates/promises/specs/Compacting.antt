@@ -1,18 +1,17 @@
 -- What is promised of compaction ([7]): which words are left, that each of them is needed, and that nothing that a net answers is changed.
-use Rattle.std.specs.Prelude.{ℕ, ◌+◌, ◌≤◌, ◌≡◌, List, ◌↔◌, length}
+use Rattle.std.specs.Prelude.{ℕ, ◌+◌, ◌≤◌, ◌≡◌, List, ◌↔◌, length, Ok}
 use Rattle.theory.specs.Nets.{AllIn, Net}
 use Rattle.theory.specs.Completion.{Ascending}
 use Rattle.theory.specs.Compaction.{Compacted, Needed}
 use Rattle.scan_start.specs.Starts.{cleared}
 use Rattle.compact.specs.Table.{compaction_outcome, freed}
-use Rattle.compact.specs.declared.CompactedList.TheVariants as compactedList
 use Rattle.promises.specs.Engines.{Engine, HasZero}
 use Rattle.promises.specs.Demand3.{CompletesTo, SameWord}
 
 -- The engine compacts the list ws to `out`: whatever marks it is lent that are long enough, it leaves `out` in front of the list and zero in the places
 -- freed, gives the length and clears the marks.
 abbrev pub CompactsTo : Engine → ℕ → ℕ → List ℕ → List ℕ → Type 0
-CompactsTo e o k ws out = (m : List ℕ) → o + k ≤ length m → e.compaction o k ws m ≡ compaction_outcome (compactedList.Done (length out)) (freed out ws) (cleared (o + k) m)
+CompactsTo e o k ws out = (m : List ℕ) → o + k ≤ length m → e.compaction o k ws m ≡ compaction_outcome (Ok (length out)) (freed out ws) (cleared (o + k) m)
 
 pub record Compacting (e : Engine) : Type 0 where
   -- A net is compacted to its words, sorted and each once, without those that the words still there support, tested from the highest down.

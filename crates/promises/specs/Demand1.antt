@@ -1,10 +1,9 @@
 -- Demand 1: whatever numbers and buffers it is lent, each operation on a word, a net, a table or rows gives the number that is due by its table and
 -- leaves each buffer as that clause says.
-use Rattle.std.specs.Prelude.{ℕ, ◌+◌, List, []}
+use Rattle.std.specs.Prelude.{ℕ, ◌+◌, List, [], Ok}
 use Rattle.promises.specs.Tables.{Obeys}
 use Rattle.net.specs.Table.{net_table, net_done}
 use Rattle.check_word.specs.Table.{word_table}
-use Rattle.check_word.specs.declared.WordChecked.TheVariants.{Legal}
 use Rattle.scan.specs.Table.{scan_table, scan_done}
 use Rattle.question.specs.Table.{question_table, question_done}
 use Rattle.questions.specs.Table.{questions_table, questions_done}
@@ -28,12 +27,11 @@ use Rattle.valuation.specs.Table.{valuation_table, valuation_done}
 use Rattle.satisfies.specs.Table.{satisfies_table, satisfies_done}
 use Rattle.rows_completion.specs.Table.{rows_table, rows_done}
 use Rattle.rows_answer.specs.Table.{answer_in_rows, answer_table}
-use Rattle.rows_answer.specs.declared.Answered.TheVariants as answered
 use Rattle.promises.specs.Numbers.{word_number, checked_number, scan_number, question_number, clash_number, completion_number, reason_number, verdict_number, questions_number, compaction_number, mending_number, valuation_number, satisfies_number, rows_number, answer_in_rows_number, proof_number, proof_check_number, unit_number, explanation_number}
 use Rattle.promises.specs.Engines.{Engine}
 
 pub record Demand1 (e : Engine) : Type 0 where
-  pub word_check : (o k w : ℕ) → Obeys word_number (word_table o k w) Legal (e.word_check o k w)
+  pub word_check : (o k w : ℕ) → Obeys word_number (word_table o k w) (Ok tt) (e.word_check o k w)
   pub net_check : (o k : ℕ) (ws : List ℕ) (set : ℕ) → Obeys checked_number (net_table o k ws set) (net_done o k) (e.net_check o k ws set)
   pub scan : (o k : ℕ) (ws : List ℕ) (set x budget : ℕ) (m : List ℕ)
       → Obeys scan_number (scan_table o k ws set x budget m) (scan_done (chosen set ws) x budget m (o + k)) (e.scan o k ws set x budget m)
@@ -58,7 +56,7 @@ pub record Demand1 (e : Engine) : Type 0 where
   pub completion_by_rows : (o k : ℕ) (ws : List ℕ) (set : ℕ) (yeses noes l : List ℕ)
       → Obeys rows_number (rows_table o k ws set yeses noes l) (rows_done o k (chosen set ws) yeses noes l (o + k)) (e.completion_by_rows o k ws set yeses noes l)
   pub answer_in_rows : (o k : ℕ) (yeses noes : List ℕ) (x y : ℕ)
-      → Obeys answer_in_rows_number (answer_table o k yeses noes x y) (answered.Done (answer_in_rows (o + k) yeses noes x y)) (e.answer_in_rows o k yeses noes x y)
+      → Obeys answer_in_rows_number (answer_table o k yeses noes x y) (Ok (answer_in_rows (o + k) yeses noes x y)) (e.answer_in_rows o k yeses noes x y)
   pub proof : (o k : ℕ) (ws : List ℕ) (set x y sign : ℕ) (d l : List ℕ)
       → Obeys proof_number (proof_table o k ws set x y sign d l) (proof_done o (chosen set ws) x y sign d l (o + k)) (e.proof o k ws set x y sign d l)
   pub proof_check : (o k : ℕ) (ws : List ℕ) (set x y sign : ℕ) (l : List ℕ)

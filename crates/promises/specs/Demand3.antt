@@ -1,35 +1,34 @@
 -- Demand 3: a completed list holds just what the chosen words support; and the laws of completed and of joined nets, over what the engine answers.
 -- Nets are over one set of nodes. Words are chosen, and their origins removed, before anything is completed or joined; plain lists are joined inside the
 -- limit on words, and they are read with a set that has origin 0.
-use Rattle.std.specs.Prelude.{ℕ, ◌+◌, ◌≤◌, ◌<◌, ◌≡◌, Bool, true, false, ◌↔◌, length, drop}
+use Rattle.completion.specs.declared.CompletionError.TheVariants as completed
+use Rattle.std.specs.Prelude.{ℕ, ◌+◌, ◌≤◌, ◌<◌, ◌≡◌, Bool, true, false, ◌↔◌, length, drop, Err, Ok}
 use mathlib.Core.List.{List, ◌++◌, Memᴰ}
 use Rattle.theory.specs.Words.{Sign, tail_of, word_limit}
 use Rattle.theory.specs.Nets.{Net}
 use Rattle.theory.specs.Origins.{chosen}
 use Rattle.theory.specs.Completion.{Lists}
 use Rattle.scan_start.specs.Starts.{cleared}
-use Rattle.question.specs.declared.Asked.{Asked}
-use Rattle.question.specs.declared.Asked.TheVariants as asked
+use Rattle.question.specs.Table.{Asked}
 use Rattle.completion.specs.Table.{completion_outcome}
-use Rattle.completion.specs.declared.Completed.TheVariants as completed
 use Rattle.promises.specs.Engines.{Engine, Read, HasZero}
 use Rattle.promises.specs.Demand2.{says}
 
 -- The word of an answer, without the rounds.
 abbrev pub word_of : Asked → Asked
-word_of (asked.Done a count) = asked.Done a 0
-word_of (asked.Refused r) = asked.Refused r
+word_of (Ok (a, count)) = Ok (a, 0)
+word_of (Err r) = Err r
 
 -- Whether an answer says yes, or no; a refusal says neither.
 abbrev pub said_by : Asked → Sign → Bool
-said_by (asked.Done a count) s = says a s
-said_by (asked.Refused r) s = false
+said_by (Ok (a, count)) s = says a s
+said_by (Err r) s = false
 
 -- The engine completes the words that the set chooses to `out`: whatever it is lent that is long enough, it writes `out` in front of the list, gives its
 -- size and clears the marks.
 abbrev pub CompletesTo : Engine → ℕ → ℕ → List ℕ → ℕ → List ℕ → Type 0
 CompletesTo e o k ws set out = (m l : List ℕ) → o + k ≤ length m → length out ≤ length l
-    → e.completion o k ws set m l ≡ completion_outcome (completed.Done (length out)) (cleared (o + k) m) (out ++ drop (length out) l)
+    → e.completion o k ws set m l ≡ completion_outcome (Ok (length out)) (cleared (o + k) m) (out ++ drop (length out) l)
 
 -- Two plain nets that may be joined.
 pub record Joined (o k : ℕ) (ws vs : List ℕ) : Type 0 where
@@ -46,7 +45,7 @@ pub record Demand3 (e : Engine) : Type 0 where
   -- A net is completed to the words that its chosen ones support, ascending, none twice, and no others.
   pub lists : (o k : ℕ) (ws : List ℕ) (set : ℕ) → Read o k ws set → (out : List ℕ) × CompletesTo e o k ws set out × Lists o k (chosen set ws) out
   -- Where the list is too short, the number given is the number of supported words.
-  pub needs : (o k : ℕ) (ws : List ℕ) (set : ℕ) (m l : List ℕ) (n : ℕ) → (e.completion o k ws set m l).answer ≡ completed.Short n
+  pub needs : (o k : ℕ) (ws : List ℕ) (set : ℕ) (m l : List ℕ) (n : ℕ) → (e.completion o k ws set m l).answer ≡ Err (completed.Short n)
       → (out : List ℕ) → Lists o k (chosen set ws) out → (n ≡ length out) × (length l < n)
   -- A completed list is completed to itself.
   pub again : (o k : ℕ) (ws : List ℕ) (set z : ℕ) → Read o k ws set → HasZero z → (out : List ℕ) → CompletesTo e o k ws set out → CompletesTo e o k out z out

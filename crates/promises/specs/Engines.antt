@@ -1,15 +1,15 @@
 -- An engine: what it answers and leaves for each call. The promises are stated of any engine; ours is the one that the operations' statements describe.
-use Rattle.std.specs.Prelude.{ℕ, ◌+◌, ◌≤◌, ◌≡◌, true, cond, List, [], ◌∷◌, ◌++◌, ltb, length, drop}
+use Rattle.scan.specs.declared.ScanError.TheVariants as answer
+use Rattle.std.specs.Prelude.{ℕ, ◌+◌, ◌≤◌, ◌≡◌, true, cond, List, [], ◌∷◌, ◌++◌, ltb, length, drop, Err, Ok}
 use Rattle.theory.specs.Scans.{Scan}
 use Rattle.theory.specs.Origins.{set_limit, among, chosen, NetFrom}
 use Rattle.net.specs.Clauses.{clause, call}
 use Rattle.net.specs.Table.{check_net, net_clauses}
 use Rattle.net.specs.declared.Refusal.TheVariants.{BadQuestion, ShortBuffer}
-use Rattle.net.specs.declared.Checked.{Checked}
+use Rattle.net.specs.Table.{Checked}
 use Rattle.check_word.specs.Table.{check_word}
-use Rattle.check_word.specs.declared.WordChecked.{WordChecked}
+use Rattle.check_word.specs.Table.{WordChecked}
 use Rattle.scan.specs.Table.{ScanOutcome, scan_outcome, bad_start, scanned}
-use Rattle.scan.specs.declared.Scanned.TheVariants as answer
 use Rattle.question.specs.Table.{QuestionOutcome, questioned}
 use Rattle.questions.specs.Table.{QuestionsOutcome, questioned_all}
 use Rattle.clash.specs.Table.{ClashOutcome, clashed_by}
@@ -18,19 +18,19 @@ use Rattle.compact.specs.Table.{CompactionOutcome, compacted_by}
 use Rattle.mend.specs.Table.{MendingOutcome, mended_by}
 use Rattle.reason.specs.Table.{ReasonOutcome, reasoned}
 use Rattle.reason_check.specs.Table.{verdict}
-use Rattle.reason_check.specs.declared.Verdict.{Verdict}
+use Rattle.reason_check.specs.Table.{Verdict}
 use Rattle.proof.specs.Table.{ProofOutcome, proved}
 use Rattle.proof_check.specs.Table.{judged}
-use Rattle.proof_check.specs.declared.Judged.{Judged}
+use Rattle.proof_check.specs.Table.{Judged}
 use Rattle.explain.specs.Table.{ExplainOutcome, explained}
 use Rattle.derivation_check.specs.Table.{lines_verdict}
 use Rattle.unit.specs.Table.{UnitOutcome, simulated}
 use Rattle.valuation.specs.Table.{ValuationOutcome, filled_by}
 use Rattle.satisfies.specs.Table.{tested_by}
-use Rattle.satisfies.specs.declared.Tested.{Tested}
+use Rattle.satisfies.specs.Table.{Tested}
 use Rattle.rows_completion.specs.Table.{RowsOutcome, completed_by_rows}
 use Rattle.rows_answer.specs.Table.{answered_in_rows}
-use Rattle.rows_answer.specs.declared.Answered.{Answered}
+use Rattle.rows_answer.specs.Table.{Answered}
 
 -- The operations, the test of a word first, each over objects, kinds, words, a set of origins, what is asked, and the lent buffers as they are at entry.
 -- Compaction and mending read a plain list and no set; what is compacted is lent to be written. The test of a statement reads a table and no words,
@@ -94,15 +94,15 @@ ours = record {
 
 -- What a scan leaves, done or spent, with the bytes `past` behind its marks.
 abbrev ran : Scan → List ℕ → ScanOutcome
-ran s past = scan_outcome (cond s.done (answer.Done s.count) (answer.Spent s.count)) (s.marks ++ past)
+ran s past = scan_outcome (cond s.done (Ok s.count) (Err (answer.Spent s.count))) (s.marks ++ past)
 
 -- The scan of another machine, with the right refusals: `run` gets the nodes, the chosen words, the start and the budget.
 abbrev pub scanned_by : (ℕ → List ℕ → ℕ → ℕ → Scan) → ℕ → ℕ → List ℕ → ℕ → ℕ → ℕ → List ℕ → ScanOutcome
 scanned_by run o k ws set x budget m =
     call
-    (net_clauses (λ r. scan_outcome (answer.Refused r) m) o k ws set
-    (clause 4 (bad_start (o + k) x) (scan_outcome (answer.Refused BadQuestion) m)
-    ∷ clause 5 (ltb (length m) (o + k)) (scan_outcome (answer.Refused ShortBuffer) m)
+    (net_clauses (λ r. scan_outcome (Err (answer.Refused r)) m) o k ws set
+    (clause 4 (bad_start (o + k) x) (scan_outcome (Err (answer.Refused BadQuestion)) m)
+    ∷ clause 5 (ltb (length m) (o + k)) (scan_outcome (Err (answer.Refused ShortBuffer)) m)
     ∷ []))
     (ran (run (o + k) (chosen set ws) x budget) (drop (o + k) m))
 

@@ -1,5 +1,5 @@
 -- The three earlier versions that failed, as engines. Each differs from ours only in its fault.
-use Rattle.std.specs.Prelude.{◌+◌, cond, List, [], ◌∷◌, ◌++◌, ltb, drop}
+use Rattle.std.specs.Prelude.{◌+◌, cond, List, [], ◌∷◌, ◌++◌, ltb, drop, Ok}
 use Rattle.theory.specs.Marks.{F, U, to_head, scan_start}
 use Rattle.theory.specs.Scans.{rounds, full_budget, full_scan}
 use Rattle.theory.specs.Downscan.{downscan}
@@ -8,7 +8,6 @@ use Rattle.theory.specs.declared.Command.{Command}
 use Rattle.net.specs.Clauses.{call}
 use Rattle.question.specs.Table.{question_outcome, question_table, question_done, read_at}
 use Rattle.question.specs.declared.Answer.TheVariants.{Yes}
-use Rattle.question.specs.declared.Asked.TheVariants as asked
 use Rattle.clash.specs.Table.{clash_search, nowhere}
 use Rattle.promises.specs.Engines.{Engine, ours, scanned_by, with_scan, with_question}
 
@@ -26,7 +25,7 @@ classical =
     with_question (λ o k ws set x y m.
     call (question_table o k ws set x y m)
     (cond (nowhere (clash_search o k (chosen set ws))) (question_done (chosen set ws) x y m (o + k))
-    (question_outcome (asked.Done Yes (full_scan (o + k) (chosen set ws) x).count) ((full_scan (o + k) (chosen set ws) x).marks ++ drop (o + k) m))))
+    (question_outcome (Ok (Yes, (full_scan (o + k) (chosen set ws) x).count)) ((full_scan (o + k) (chosen set ws) x).marks ++ drop (o + k) m))))
 
 -- The report's backward search in place of the scan from a kind: it never climbs above the kind that it starts from.
 abbrev pub never_up : Engine

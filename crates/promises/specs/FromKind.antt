@@ -1,12 +1,11 @@
 -- The laws of demand 3 about answers, asked from the kind: over the marks that a scan from a kind leaves when it is done.
-use Rattle.std.specs.Prelude.{ℕ, ◌+◌, ◌*◌, ◌-◌, ◌≤◌, ◌<◌, ◌≡◌, ◌↔◌, length}
+use Rattle.std.specs.Prelude.{ℕ, ◌+◌, ◌*◌, ◌-◌, ◌≤◌, ◌<◌, ◌≡◌, ◌↔◌, length, Ok}
 use mathlib.Core.List.{List, ◌++◌, Memᴰ}
 use Rattle.theory.specs.Words.{Sign, tail_of}
 use Rattle.theory.specs.Nets.{Kind}
 use Rattle.theory.specs.Marks.{At, marker_to, U}
 use Rattle.theory.specs.Origins.{chosen}
 use Rattle.scan.specs.Table.{scan_outcome}
-use Rattle.scan.specs.declared.Scanned.TheVariants as scanned
 use Rattle.promises.specs.Engines.{Engine, Read, HasZero}
 use Rattle.promises.specs.Demand3.{CompletesTo, Joined}
 
@@ -16,7 +15,7 @@ pub record KindMarks (e : Engine) (o k : ℕ) (ws : List ℕ) (set y : ℕ) (m :
   pub budget : ℕ
   pub room : List ℕ
   pub count : ℕ
-  pub done : e.scan o k ws set y budget room ≡ scan_outcome (scanned.Done count) m
+  pub done : e.scan o k ws set y budget room ≡ scan_outcome (Ok count) m
 
 -- From every kind the engine says the same of every node over two lists read with one set.
 abbrev pub SameFromKind : Engine → ℕ → ℕ → ℕ → List ℕ → List ℕ → Type 0
@@ -27,7 +26,7 @@ SameFromKind e o k set ws vs = (y : ℕ) (m l : List ℕ) → KindMarks e o k ws
 pub record Demand3FromKind (e : Engine) : Type 0 where
   -- Over a net, from a kind, with room for the marks and a budget of 3N − 1 rounds, the scan is done: the laws below speak of something.
   pub done : (o k : ℕ) (ws : List ℕ) (set : ℕ) → Read o k ws set → (y : ℕ) → Kind o k y → (budget : ℕ) → 3 * (o + k) - 1 ≤ budget → (room : List ℕ) → o + k ≤ length room
-      → (count : ℕ) × ((e.scan o k ws set y budget room).answer ≡ scanned.Done count)
+      → (count : ℕ) × ((e.scan o k ws set y budget room).answer ≡ Ok count)
   -- Two nets, each read with its set, are completed to one list exactly if no third net that may be joined to each lets a scan from a kind tell them apart.
   pub alike : (o k : ℕ) (ws : List ℕ) (set : ℕ) (vs : List ℕ) (set' z : ℕ) → Read o k ws set → Read o k vs set' → HasZero z → (a b : List ℕ)
       → CompletesTo e o k ws set a → CompletesTo e o k vs set' b

@@ -1,43 +1,36 @@
 -- Four worthless engines, and one that looks right. Each differs from ours only in what is wrong with it.
-use Rattle.std.specs.Prelude.{ℕ, zero, suc, ◌+◌, true, false, List, [], ◌∷◌, ◌++◌, drop}
+use Rattle.unit.specs.declared.UnitError.TheVariants as simulatedAs
+use Rattle.satisfies.specs.declared.TestError.TheVariants as tested
+use Rattle.valuation.specs.declared.ValuationError.TheVariants as filled
+use Rattle.proof_check.specs.declared.JudgeError.TheVariants as judgedAs
+use Rattle.proof.specs.declared.ProofError.TheVariants as provedAs
+use Rattle.explain.specs.declared.ExplainError.TheVariants as explainedAs
+use Rattle.reason.specs.declared.ReasonError.TheVariants as reasonedAs
+use Rattle.mend.specs.declared.MendError.TheVariants as mendedNet
+use Rattle.completion.specs.declared.CompletionError.TheVariants as completed
+use Rattle.questions.specs.declared.PairsError.TheVariants as askedAll
+use Rattle.scan.specs.declared.ScanError.TheVariants as scanned
+use Rattle.std.specs.Prelude.{ℕ, zero, suc, ◌+◌, true, false, List, [], ◌∷◌, ◌++◌, drop, Err, Ok}
 use Rattle.theory.specs.Marks.{link, round, commands, scan_start}
 use Rattle.theory.specs.Scans.{same, Scan, full_budget}
 use Rattle.theory.specs.Origins.{chosen}
 use Rattle.theory.specs.declared.Command.{Command}
 use Rattle.net.specs.declared.Refusal.{Refusal}
-use Rattle.net.specs.declared.Checked.TheVariants as checked
-use Rattle.check_word.specs.declared.WordChecked.TheVariants as wordChecked
 use Rattle.scan.specs.Table.{ScanOutcome, scan_outcome, scan_table}
-use Rattle.scan.specs.declared.Scanned.TheVariants as scanned
 use Rattle.question.specs.Table.{question_outcome, question_table, questioned, read_at}
 use Rattle.clash.specs.Table.{clash_outcome}
 use Rattle.question.specs.declared.Answer.TheVariants.{None}
-use Rattle.question.specs.declared.Asked.{Asked}
-use Rattle.question.specs.declared.Asked.TheVariants as asked
+use Rattle.question.specs.Table.{Asked}
 use Rattle.questions.specs.Table.{questions_outcome}
-use Rattle.questions.specs.declared.AskedAll.TheVariants as askedAll
-use Rattle.clash.specs.declared.Clashed.TheVariants as clashed
 use Rattle.completion.specs.Table.{CompletionOutcome, completion_outcome, completion_clauses, completion_done}
-use Rattle.completion.specs.declared.Completed.TheVariants as completed
 use Rattle.compact.specs.Table.{compaction_outcome}
-use Rattle.compact.specs.declared.CompactedList.TheVariants as compactedList
 use Rattle.mend.specs.Table.{mending_outcome}
-use Rattle.mend.specs.declared.MendedNet.TheVariants as mendedNet
 use Rattle.reason.specs.Table.{reason_outcome}
-use Rattle.reason.specs.declared.Reasoned.TheVariants as reasonedAs
-use Rattle.reason_check.specs.declared.Verdict.TheVariants as verdictAs
 use Rattle.proof.specs.Table.{proof_outcome}
-use Rattle.proof.specs.declared.Proved.TheVariants as provedAs
-use Rattle.proof_check.specs.declared.Judged.TheVariants as judgedAs
 use Rattle.explain.specs.Table.{explain_outcome}
-use Rattle.explain.specs.declared.Explained.TheVariants as explainedAs
 use Rattle.unit.specs.Table.{unit_outcome}
-use Rattle.unit.specs.declared.Simulated.TheVariants as simulatedAs
 use Rattle.valuation.specs.Table.{valuation_outcome}
-use Rattle.valuation.specs.declared.Filled.TheVariants as filled
-use Rattle.satisfies.specs.declared.Tested.TheVariants as tested
 use Rattle.rows_completion.specs.Table.{rows_outcome}
-use Rattle.rows_answer.specs.declared.Answered.TheVariants as answered
 use Rattle.net.specs.Clauses.{call}
 use Rattle.net.specs.Table.{net_clauses}
 use Rattle.promises.specs.Engines.{Engine, ours, scanned_by, with_scan, with_question, with_completion}
@@ -45,32 +38,32 @@ use Rattle.promises.specs.Engines.{Engine, ours, scanned_by, with_scan, with_que
 -- One that refuses all calls, with the refusal r.
 abbrev pub refuser : Refusal → Engine
 refuser r = record {
-  word_check = λ o k w. wordChecked.Refused r;
-  net_check = λ o k ws set. checked.Refused r;
-  scan = λ o k ws set x budget m. scan_outcome (scanned.Refused r) m;
-  question = λ o k ws set x y m. question_outcome (asked.Refused r) m;
-  clash_test = λ o k ws set m. clash_outcome (clashed.Refused r) m;
-  completion = λ o k ws set m l. completion_outcome (completed.Refused r) m l;
-  reason = λ o k ws set x y sign d l. reason_outcome (reasonedAs.Refused r) d l;
-  reason_check = λ o k ws set x y sign l. verdictAs.Refused r;
-  questions = λ o k ws set ps bs m. questions_outcome (askedAll.Refused r) bs m;
-  compaction = λ o k ws m. compaction_outcome (compactedList.Refused r) ws m;
-  mending = λ o k ws kept dropped m. mending_outcome (mendedNet.Refused r) kept dropped m;
-  valuation = λ o k ws set t m. valuation_outcome (filled.Refused r) t m;
-  satisfies = λ o k t x y sign. tested.Refused r;
-  completion_by_rows = λ o k ws set yeses noes l. rows_outcome (completed.Refused r) yeses noes l;
-  answer_in_rows = λ o k yeses noes x y. answered.Refused r;
-  proof = λ o k ws set x y sign d l. proof_outcome (provedAs.Refused r) d l;
-  proof_check = λ o k ws set x y sign l. judgedAs.Refused r;
-  unit = λ o k ws set program budget m. unit_outcome (simulatedAs.Refused r) m;
-  explanation = λ o k ws set x y sign d m l. explain_outcome (explainedAs.Refused r) d m l;
-  derivation_check = λ o k ws set x y sign l. verdictAs.Refused r;
+  word_check = λ o k w. Err r;
+  net_check = λ o k ws set. Err r;
+  scan = λ o k ws set x budget m. scan_outcome (Err (scanned.Refused r)) m;
+  question = λ o k ws set x y m. question_outcome (Err r) m;
+  clash_test = λ o k ws set m. clash_outcome (Err r) m;
+  completion = λ o k ws set m l. completion_outcome (Err (completed.Refused r)) m l;
+  reason = λ o k ws set x y sign d l. reason_outcome (Err (reasonedAs.Refused r)) d l;
+  reason_check = λ o k ws set x y sign l. Err r;
+  questions = λ o k ws set ps bs m. questions_outcome (Err (askedAll.Refused r)) bs m;
+  compaction = λ o k ws m. compaction_outcome (Err r) ws m;
+  mending = λ o k ws kept dropped m. mending_outcome (Err (mendedNet.Refused r)) kept dropped m;
+  valuation = λ o k ws set t m. valuation_outcome (Err (filled.Refused r)) t m;
+  satisfies = λ o k t x y sign. Err (tested.Refused r);
+  completion_by_rows = λ o k ws set yeses noes l. rows_outcome (Err (completed.Refused r)) yeses noes l;
+  answer_in_rows = λ o k yeses noes x y. Err r;
+  proof = λ o k ws set x y sign d l. proof_outcome (Err (provedAs.Refused r)) d l;
+  proof_check = λ o k ws set x y sign l. Err (judgedAs.Refused r);
+  unit = λ o k ws set program budget m. unit_outcome (Err (simulatedAs.Refused r)) m;
+  explanation = λ o k ws set x y sign d m l. explain_outcome (Err (explainedAs.Refused r)) d m l;
+  derivation_check = λ o k ws set x y sign l. Err r;
 }
 
 -- An answer turned into none.
 abbrev pub silenced : Asked → Asked
-silenced (asked.Done a count) = asked.Done None count
-silenced (asked.Refused r) = asked.Refused r
+silenced (Ok (a, count)) = Ok (None, count)
+silenced (Err r) = Err r
 
 -- One that answers none to every question, with the right rounds, marks and refusals.
 abbrev pub denier : Engine
@@ -79,7 +72,7 @@ denier = with_question (λ o k ws set x y m. question_outcome (silenced (questio
 -- The chosen words as their own completion, with the right refusals.
 abbrev pub own_completion : ℕ → ℕ → List ℕ → ℕ → List ℕ → List ℕ → CompletionOutcome
 own_completion o k ws set m l =
-    call (net_clauses (λ r. completion_outcome (completed.Refused r) m l) o k ws set (completion_clauses (chosen set ws) m l (o + k))) (completion_done (chosen set ws) m l (o + k))
+    call (net_clauses (λ r. completion_outcome (Err (completed.Refused r)) m l) o k ws set (completion_clauses (chosen set ws) m l (o + k))) (completion_done (chosen set ws) m l (o + k))
 
 -- One that returns it.
 abbrev pub copier : Engine
@@ -88,7 +81,7 @@ copier = with_completion own_completion
 -- A scan that runs the first round and reports an invented count, with the right refusals, and the right outcome of a budget that is spent.
 abbrev pub one_round : (ℕ → ℕ → List ℕ → ℕ → ℕ → ℕ → List ℕ → ℕ) → ℕ → ℕ → List ℕ → ℕ → ℕ → ℕ → List ℕ → ScanOutcome
 one_round invented o k ws set x budget m =
-    call (scan_table o k ws set x budget m) (scan_outcome (scanned.Done (invented o k ws set x budget m)) (round commands (chosen set ws) (scan_start (o + k) x) ++ drop (o + k) m))
+    call (scan_table o k ws set x budget m) (scan_outcome (Ok (invented o k ws set x budget m)) (round commands (chosen set ws) (scan_start (o + k) x) ++ drop (o + k) m))
 
 -- One that does so.
 abbrev pub inventor : (ℕ → ℕ → List ℕ → ℕ → ℕ → ℕ → List ℕ → ℕ) → Engine

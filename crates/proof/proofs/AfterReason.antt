@@ -1,5 +1,8 @@
 -- What the reason gives decides the whole outcome: its refusals are passed on, no room for it means a proof that is too deep, and its path is turned
 -- into our list.
+use Rattle.proof.specs.declared.ProofError.TheVariants.{Refused, TooDeep, Unsupported}
+use Rattle.reason.specs.declared.ReasonError.TheVariants as reason
+use Rattle.std.specs.Prelude.{Err, Ok}
 use Prim.Native.Nat.{ℕ, ◌+◌, ◌-◌, ◌≤◌, ◌<◌}
 use mathlib.Core.Path.{◌≡◌, refl, sym, subst, ap, ◌∙◌}
 use mathlib.Core.Bool.{Bool, true, false, cond}
@@ -22,22 +25,19 @@ use Rattle.net.specs.Clauses.{Clause, clause, call}
 use Rattle.net.specs.Table.{net_clauses, check_net, bad_statement}
 use Rattle.net.specs.Good.{GoodStatement}
 use Rattle.net.specs.declared.Refusal.TheVariants.{BadQuestion, ShortBuffer}
-use Rattle.net.specs.declared.Checked.{Checked}
-use Rattle.net.specs.declared.Checked.TheVariants as checked
+use Rattle.net.specs.Table.{Checked}
 use Rattle.net.proofs.NetCheck.{nodes_exactly}
 use Rattle.net.proofs.OnNet.{passed_on, gone_on}
 use Rattle.net.proofs.Good.{good_statement, good_kind}
 use Rattle.reason.specs.Table.{ReasonOutcome, reason_outcome, filled, reason_of, reason_clauses, reason_done, reason_table, reasoned}
-use Rattle.reason.specs.declared.Reasoned.{Reasoned}
-use Rattle.reason.specs.declared.Reasoned.TheVariants as reason
+use Rattle.reason.specs.Table.{Reasoned}
 use Rattle.proof_form.specs.Ours.{our_depth}
 use Rattle.proof_given.specs.Held.{Entered}
 use Rattle.proof_form.proofs.Tests.{by_test}
-use Rattle.proof.specs.Table.{ProofOutcome, proof_outcome, links_of, proof_of, room_clauses, room_done, proof_clauses, proof_done, proof_table, proved}
+use Rattle.proof.specs.Table.{without_reason, ProofOutcome, proof_outcome, links_of, proof_of, room_clauses, room_done, proof_clauses, proof_done, proof_table, proved}
 use Rattle.proof.specs.Listed.{listed}
 use Rattle.proof.proofs.Ours.{object_link, written_proves}
-use Rattle.proof.specs.declared.Proved.{Proved}
-use Rattle.proof.specs.declared.Proved.TheVariants.{Done, Unsupported, TooDeep, Short, Refused}
+use Rattle.proof.specs.Table.{Proved}
 
 -- ── a call turned into another ──
 -- The clauses with their outcomes turned.
@@ -76,10 +76,8 @@ module _ (o k : ℕ) (ws : List ℕ) (set x y sign : ℕ) (d l p : List ℕ) (ro
 
   -- What the writer makes of the reason's answer, the scratch and the path that it leaves.
   abbrev pub afterwards : Reasoned → List ℕ → List ℕ → ProofOutcome
-  afterwards (reason.Done size) past q = listed o n vs x y sign (take size q) past l
-  afterwards reason.Unsupported past q = proof_outcome Unsupported past l
-  afterwards (reason.Short size) past q = proof_outcome TooDeep past l
-  afterwards (reason.Refused r) past q = proof_outcome (Refused r) past l
+  afterwards (Ok size) past q = listed o n vs x y sign (take size q) past l
+  afterwards (Err e) past q = proof_outcome (Err (without_reason e)) past l
 
   abbrev turn : ReasonOutcome → ProofOutcome
   turn z = afterwards z.answer z.scratch z.list
@@ -102,7 +100,7 @@ module _ (o k : ℕ) (ws : List ℕ) (set x y sign : ℕ) (d l p : List ℕ) (ro
       at true = omega (arith, h)
       at false = omega (arith, h)
 
-  room_same : (past : List ℕ) → cond (ltb (length p) (length all)) (proof_outcome TooDeep past l) (listed o n vs x y sign (take (length all) (all ++ drop (length all) p)) past l)
+  room_same : (past : List ℕ) → cond (ltb (length p) (length all)) (proof_outcome (Err TooDeep) past l) (listed o n vs x y sign (take (length all) (all ++ drop (length all) p)) past l)
       ≡ call (room_clauses (our_depth o x links) (proof_of o vs x y sign n) past l) (room_done (proof_of o vs x y sign n) past l)
   room_same past =
       let e : take (length all) (all ++ drop (length all) p) ≡ all = take_at all (drop (length all) p) (length all) refl in
@@ -110,7 +108,7 @@ module _ (o k : ℕ) (ws : List ℕ) (set x y sign : ℕ) (d l p : List ℕ) (ro
       rw (e, m) (at (ltb (length p) (length all)) refl)
     where
       at : (b : Bool) → ltb (length p) (length all) ≡ b
-          → cond b (proof_outcome TooDeep past l) (call (room_clauses (our_depth o x links) (proof_of o vs x y sign n) past l) (room_done (proof_of o vs x y sign n) past l))
+          → cond b (proof_outcome (Err TooDeep) past l) (call (room_clauses (our_depth o x links) (proof_of o vs x y sign n) past l) (room_done (proof_of o vs x y sign n) past l))
           ≡ call (room_clauses (our_depth o x links) (proof_of o vs x y sign n) past l) (room_done (proof_of o vs x y sign n) past l)
       at true e =
           let h = ltb-true (length p) (length all) e in
@@ -121,12 +119,12 @@ module _ (o k : ℕ) (ws : List ℕ) (set x y sign : ℕ) (d l p : List ℕ) (ro
   after_reason =
       turned_call turn (reason_table o k ws set x y sign d p) (reason_done vs x y sign d p n)
       ∙ same_front
-      (net_clauses (λ r. proof_outcome (Refused r) d l) o k ws set
-      (clause 4 (bad_statement o n x y sign) (proof_outcome (Refused BadQuestion) d l)
-      ∷ clause 5 (ltb (length d) (n + n)) (proof_outcome (Refused ShortBuffer) d l)
-      ∷ clause 7 (eqb links never) (proof_outcome Unsupported (filled vs y sign d n) l)
+      (net_clauses (λ r. proof_outcome (Err (Refused r)) d l) o k ws set
+      (clause 4 (bad_statement o n x y sign) (proof_outcome (Err (Refused BadQuestion)) d l)
+      ∷ clause 5 (ltb (length d) (n + n)) (proof_outcome (Err (Refused ShortBuffer)) d l)
+      ∷ clause 7 (eqb links never) (proof_outcome (Err Unsupported) (filled vs y sign d n) l)
       ∷ []))
-      (clause 8 (ltb (length p) (length all)) (proof_outcome TooDeep (filled vs y sign d n) l) ∷ [])
+      (clause 8 (ltb (length p) (length all)) (proof_outcome (Err TooDeep) (filled vs y sign d n) l) ∷ [])
       (room_clauses (our_depth o x links) (proof_of o vs x y sign n) (filled vs y sign d n) l)
       (listed o n vs x y sign (take (length all) (all ++ drop (length all) p)) (filled vs y sign d n) l)
       (room_done (proof_of o vs x y sign n) (filled vs y sign d n) l)
@@ -147,10 +145,8 @@ module _ (o k : ℕ) (ws : List ℕ) (set x y sign : ℕ) (d l p : List ℕ) (ro
     pub path : take size q ≡ all
 
   abbrev Known : Reasoned → List ℕ → Type 0
-  Known (reason.Done size) q = Ready size q
-  Known reason.Unsupported q = Unit {0}
-  Known (reason.Short size) q = Unit {0}
-  Known (reason.Refused r) q = Unit {0}
+  Known (Ok size) q = Ready size q
+  Known (Err e) q = Unit {0}
 
   abbrev known : ReasonOutcome → Type 0
   known z = Known z.answer z.list
@@ -172,14 +168,14 @@ module _ (o k : ℕ) (ws : List ℕ) (set x y sign : ℕ) (d l p : List ℕ) (ro
       }))))
 
   reasoned_known : (c : Checked) → check_net o k ws set ≡ c → known (reasoned o k ws set x y sign d p)
-  reasoned_known (checked.Nodes m) e =
+  reasoned_known (Ok m) e =
       let g = (nodes_exactly o k ws set m).0 e in
-      let e' : check_net o k ws set ≡ checked.Nodes n = e ∙ ap checked.Nodes g.0 in
-      subst known (gone_on (λ r. reason_outcome (reason.Refused r) d p) o k ws set (reason_clauses o vs x y sign d p) (reason_done vs x y sign d p) e' refl) (clauses_known g.2)
-  reasoned_known (checked.Refused r) e =
-      subst known (passed_on (λ r. reason_outcome (reason.Refused r) d p) o k ws set (reason_clauses o vs x y sign d p) (reason_done vs x y sign d p) e) tt
+      let e' : check_net o k ws set ≡ Ok n = e ∙ ap Ok g.0 in
+      subst known (gone_on (λ r. reason_outcome (Err (reason.Refused r)) d p) o k ws set (reason_clauses o vs x y sign d p) (reason_done vs x y sign d p) e' refl) (clauses_known g.2)
+  reasoned_known (Err r) e =
+      subst known (passed_on (λ r. reason_outcome (Err (reason.Refused r)) d p) o k ws set (reason_clauses o vs x y sign d p) (reason_done vs x y sign d p) e) tt
 
-  pub done_ready : (found : Reasoned) (past q : List ℕ) (size : ℕ) → reason_outcome found past q ≡ reasoned o k ws set x y sign d p → found ≡ reason.Done size → Ready size q
+  pub done_ready : (found : Reasoned) (past q : List ℕ) (size : ℕ) → reason_outcome found past q ≡ reasoned o k ws set x y sign d p → found ≡ Ok size → Ready size q
   done_ready found past q size e f = subst (λ z. Known z q) f (subst known (sym e) (reasoned_known (check_net o k ws set) refl))
 
   object_links : (size : ℕ) (q : List ℕ) → Ready size q → x < o → 3 < size
@@ -215,11 +211,8 @@ module _ (o k : ℕ) (ws : List ℕ) (set x y sign : ℕ) (d l p : List ℕ) (ro
 -- Where the writer is done, what stands in front of the list proves the statement from the chosen words.
 module _ (o k : ℕ) (ws : List ℕ) (set x y sign : ℕ) (d l : List ℕ) where
   abbrev Proven : Proved → List ℕ → Type 0
-  Proven (Done m) q = Proves o k (chosen set ws) x y (sign_at sign) (take m q)
-  Proven Unsupported q = Unit {0}
-  Proven TooDeep q = Unit {0}
-  Proven (Short m) q = Unit {0}
-  Proven (Refused r) q = Unit {0}
+  Proven (Ok m) q = Proves o k (chosen set ws) x y (sign_at sign) (take m q)
+  Proven (Err e) q = Unit {0}
 
   abbrev proven : ProofOutcome → Type 0
   proven z = Proven z.answer z.list
@@ -239,14 +232,14 @@ module _ (o k : ℕ) (ws : List ℕ) (set x y sign : ℕ) (d l : List ℕ) where
       rw (take_at all (drop (length all) l) (length all) refl) p)))))
 
   outcome_proven : (c : Checked) → check_net o k ws set ≡ c → proven (proved o k ws set x y sign d l)
-  outcome_proven (checked.Nodes m) e =
+  outcome_proven (Ok m) e =
       let g = (nodes_exactly o k ws set m).0 e in
-      let e' : check_net o k ws set ≡ checked.Nodes (o + k) = e ∙ ap checked.Nodes g.0 in
-      subst proven (gone_on (λ r. proof_outcome (Refused r) d l) o k ws set (proof_clauses o (chosen set ws) x y sign d l) (proof_done o (chosen set ws) x y sign d l) e' refl) (clauses_proven g.2)
-  outcome_proven (checked.Refused r) e =
-      subst proven (passed_on (λ r. proof_outcome (Refused r) d l) o k ws set (proof_clauses o (chosen set ws) x y sign d l) (proof_done o (chosen set ws) x y sign d l) e) tt
+      let e' : check_net o k ws set ≡ Ok (o + k) = e ∙ ap Ok g.0 in
+      subst proven (gone_on (λ r. proof_outcome (Err (Refused r)) d l) o k ws set (proof_clauses o (chosen set ws) x y sign d l) (proof_done o (chosen set ws) x y sign d l) e' refl) (clauses_proven g.2)
+  outcome_proven (Err r) e =
+      subst proven (passed_on (λ r. proof_outcome (Err (Refused r)) d l) o k ws set (proof_clauses o (chosen set ws) x y sign d l) (proof_done o (chosen set ws) x y sign d l) e) tt
 
-  pub done_proves : (m : ℕ) (past q : List ℕ) → proved o k ws set x y sign d l ≡ proof_outcome (Done m) past q → Proves o k (chosen set ws) x y (sign_at sign) (take m q)
+  pub done_proves : (m : ℕ) (past q : List ℕ) → proved o k ws set x y sign d l ≡ proof_outcome (Ok m) past q → Proves o k (chosen set ws) x y (sign_at sign) (take m q)
   done_proves m past q e = subst proven e (outcome_proven (check_net o k ws set) refl)
 
 -- ── the scratch ──

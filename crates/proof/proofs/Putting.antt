@@ -1,4 +1,6 @@
 -- A list put in its place, or the room that it needs: return by return.
+use Rattle.proof.specs.declared.ProofError.TheVariants.{Short, TooDeep}
+use Rattle.std.specs.Prelude.{Err, Ok}
 use Prim.Native.Nat.{ℕ, zero, suc, ◌+◌, ◌-◌, ◌*◌, ◌≤◌, ◌<◌}
 use mathlib.Core.Path.{◌≡◌, refl, sym, ap, ◌∙◌}
 use mathlib.Core.List.{List, [], ◌∷◌}
@@ -15,7 +17,6 @@ use Rattle.proof_form.specs.FromReason.{hops_from, start_at, from_reason}
 use Rattle.proof_form.proofs.Writing.{length_chain, length_from}
 use Rattle.proof.specs.Table.{ProofOutcome, proof_outcome}
 use Rattle.proof.specs.Listed.{put, object_list, kind_list, put_kind, listed}
-use Rattle.proof.specs.declared.Proved.TheVariants.{Done, TooDeep, Short}
 
 -- ── the first link of an object's reason ──
 module _ (x : ℕ) (p : List ℕ) (w v : ℕ) (ev : v ≡ get_or p 3 0) where
@@ -41,13 +42,13 @@ module _ (ws p : List ℕ) where
 
 -- ── numbers 8 and 0 ──
 module _ (all past l : List ℕ) (s : ℕ) (es : length all ≡ s) where
-  pub put_short : length l < s → proof_outcome (Short s) past l ≡ put all past l
+  pub put_short : length l < s → proof_outcome (Err (Short s)) past l ≡ put all past l
   put_short h = rw (lt-ltb (length l) (length all) (omega (arith, es, h)), es)
 
-  pub put_done : (k : List ℕ) → s ≤ length l → k ≡ over all l → proof_outcome (Done s) past k ≡ put all past l
+  pub put_done : (k : List ℕ) → s ≤ length l → k ≡ over all l → proof_outcome (Ok s) past k ≡ put all past l
   put_done k h e =
-      ap (proof_outcome (Done s) past) e
-      ∙ rw (le-ltb (length l) (length all) (omega (arith, es, h))) (ap (λ z. proof_outcome (Done z) past (over all l)) (sym es))
+      ap (proof_outcome (Ok s) past) e
+      ∙ rw (le-ltb (length l) (length all) (omega (arith, es, h))) (ap (λ z. proof_outcome (Ok z) past (over all l)) (sym es))
 
 sign_number_lem : (s : ℕ) → s ≤ 1 → sign_number (sign_at s) ≡ s
 sign_number_lem zero h = refl
@@ -56,7 +57,7 @@ sign_number_lem (suc (suc s)) h = absurd (omega arith)
 
 -- ── a kind's statement ──
 module _ (n : ℕ) (ws : List ℕ) (x y sign : ℕ) (p past l : List ℕ) where
-  pub kind_deep : 253 < length p - 3 → proof_outcome TooDeep past l ≡ put_kind n ws x y sign p past l
+  pub kind_deep : 253 < length p - 3 → proof_outcome (Err TooDeep) past l ≡ put_kind n ws x y sign p past l
   kind_deep h = rw (lt-ltb 253 (length p - 3) h)
 
   module _ (h : length p - 3 ≤ 253) (q : ProofOutcome) where

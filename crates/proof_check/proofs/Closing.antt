@@ -1,4 +1,6 @@
 -- The end of the walk, and the check of a list, return by return.
+use Rattle.proof_check.specs.declared.JudgeError.TheVariants.{Faulty, Refused}
+use Rattle.std.specs.Prelude.{Err, Ok}
 use Prim.Native.Nat.{ℕ, zero, suc, ◌+◌, ◌*◌, ◌≤◌, ◌<◌}
 use mathlib.Core.Path.{◌≡◌, refl, sym, ap, ◌∙◌}
 use mathlib.Core.Bool.{Bool, true, false}
@@ -21,8 +23,7 @@ use Rattle.proof_form.specs.declared.Walked.{Walked}
 use Rattle.proof_form.specs.declared.Walked.TheVariants.{Upto, Fault, Cut}
 use Rattle.proof_form.specs.declared.Found.{Found}
 use Rattle.proof_form.specs.declared.Found.TheVariants.{Right, At, Nowhere}
-use Rattle.proof_check.specs.declared.Judged.{Judged}
-use Rattle.proof_check.specs.declared.Judged.TheVariants.{Accepted, Faulty, Refused}
+use Rattle.proof_check.specs.Table.{Judged}
 use Rattle.proof_check.specs.Table.{no_step, fault_clause, judged_clauses, judged_done}
 
 module _ (l : List ℕ) (n b : ℕ) (z : Walked) where
@@ -93,11 +94,11 @@ sign_word (suc (suc s)) h x y = absurd (omega arith)
 
 -- ── the statement, and what was found in the list ──
 abbrev pub judged_found : Found → Judged
-judged_found Right = Accepted
-judged_found (At i) = Faulty i
-judged_found Nowhere = Faulty no_step
+judged_found Right = Ok tt
+judged_found (At i) = Err (Faulty i)
+judged_found Nowhere = Err (Faulty no_step)
 
-pub judged_found_lem : (bad : Bool) (z : Found) → bad ≡ false → judged_found z ≡ call (clause 4 bad (Refused BadQuestion) ∷ fault_clause z ∷ []) judged_done
+pub judged_found_lem : (bad : Bool) (z : Found) → bad ≡ false → judged_found z ≡ call (clause 4 bad (Err (Refused BadQuestion)) ∷ fault_clause z ∷ []) judged_done
 judged_found_lem bad Right e = rw e
 judged_found_lem bad (At i) e = rw e
 judged_found_lem bad Nowhere e = rw e
@@ -111,7 +112,7 @@ module _ (o k n : ℕ) (ws : List ℕ) (x y s : ℕ) (l : List ℕ) (en : n ≡ 
     goal_found = rw (sign_word s stated.2 x y, ← eg) ez
 
     pub statement_found : {j : Judged} → j ≡ judged_found z → j ≡ call (judged_clauses o ws x y s l n) judged_done
-    statement_found e = e ∙ (judged_found_lem (bad_statement o n x y s) z good ∙ ap (λ w. call (clause 4 (bad_statement o n x y s) (Refused BadQuestion) ∷ fault_clause w ∷ []) judged_done) goal_found)
+    statement_found e = e ∙ (judged_found_lem (bad_statement o n x y s) z good ∙ ap (λ w. call (clause 4 (bad_statement o n x y s) (Err (Refused BadQuestion)) ∷ fault_clause w ∷ []) judged_done) goal_found)
 
     -- A step at fault is a u32.
     pub fault_fits : (i : ℕ) → z ≡ At i → i < list_limit

@@ -6,23 +6,31 @@ ghost use Rattle.theory.specs.Origins.{chosen, NetFrom};
 ghost use Rattle.net.specs.Clauses.{call};
 ghost use Rattle.proof_form.specs.Checker.{closing, check_proof};
 ghost use Rattle.proof_given.specs.Held.{Entered};
+ghost use Rattle.proof_check.specs.declared.JudgeError.TheVariants.{Refused};
 ghost use Rattle.proof_check.specs.Table.{judged, judged_clauses, judged_done};
 
-use net::{Checked, Refusal, check_net, is_bad_statement};
+use net::{Refusal, check_net, is_bad_statement};
 use proof_branch::check_sequent;
 use proof_form::{Found, Walked};
 use proof_given::branch_fits;
 use proof_rule::word_of;
 
-// What the check answers: the list proves the statement; it does not (number 12), with the first step at fault or the number for none; or a refusal.
-#[derive(Drop)]
-pub enum Judged {
-    Accepted,
+// Why a list is not accepted as a proof of the statement: it is none (number 12), with the first step at fault or the number for none; or a refusal.
+#[derive(Clone, Copy)]
+pub enum JudgeError {
     Faulty(u32),
     Refused(Refusal),
 }
 
-// Where no one step is at fault.
+impl From<Refusal> for JudgeError {
+    ghost from_gives = { λ refusal e. e ≡ Refused refusal };
+
+    fn from(refusal: Refusal) -> JudgeError {
+        JudgeError::Refused(refusal)
+    }
+}
+
+// Where no one step is at fault. A number and no `Option`: it is the answer itself, `no_step` in the clause.
 const NO_STEP: u32 = 4294967295;
 
 // The most numbers in a list, and the most sequents one above another.
@@ -111,19 +119,19 @@ fn check_statement(
     y: u32,
     sign: u32,
     list: &[u32],
-) -> Judged
+) -> Result<(), JudgeError>
     requires { (n ≡ o + k) × NetFrom o k words.now }
     ensures { result ≡ call (judged_clauses o (chosen set words.now) x y sign list.now n) judged_done }
 {
     if is_bad_statement(o, n, x, y, sign) {
-        return Judged::Refused(Refusal::BadQuestion);
+        return Err(JudgeError::Refused(Refusal::BadQuestion));
     }
     let goal = word_of(x as usize, y as usize, sign);
     let found = check_list(o as usize, n, words, set, goal, list);
     match found {
-        Found::Right => Judged::Accepted,
-        Found::At(step) => Judged::Faulty(step as u32),
-        Found::Nowhere => Judged::Faulty(NO_STEP),
+        Found::Right => Ok(()),
+        Found::At(step) => Err(JudgeError::Faulty(step as u32)),
+        Found::Nowhere => Err(JudgeError::Faulty(NO_STEP)),
     }
 }
 
@@ -137,12 +145,9 @@ pub fn check_proof(
     y: u32,
     sign: u32,
     list: &[u32],
-) -> Judged
+) -> Result<(), JudgeError>
     ensures { result ≡ judged o k words.now set x y sign list.now }
 {
-    let net = check_net(o, k, words, set);
-    match net {
-        Checked::Refused(refusal) => Judged::Refused(refusal),
-        Checked::Nodes(n) => check_statement(o, k, n, words, set, x, y, sign, list),
-    }
+    let n = check_net(o, k, words, set)?;
+    check_statement(o, k, n, words, set, x, y, sign, list)
 }

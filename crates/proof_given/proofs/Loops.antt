@@ -1,14 +1,16 @@
 -- The loops over the net's words and over the added ones: they find the word, go on, or come to the end.
-use Prim.Native.Nat.{ℕ, zero, suc, ◌+◌, ◌-◌, ◌≤◌, ◌<◌}
+use Prim.Native.Nat.{ℕ, zero, suc, ◌+◌, ◌≤◌, ◌<◌}
 use mathlib.Core.Path.{◌≡◌, refl, sym, ◌∙◌}
 use mathlib.Core.Bool.{Bool, true, false, cond, ◌||◌}
 use mathlib.Core.List.{List, [], ◌∷◌}
 use native.Mathlib.Omega.{arith}
-use native.Mathlib.Numerals.{sub-one}
-use native.Mathlib.Nat.{not-suc-le-zero}
+use native.Mathlib.Numerals.{add-one}
 use lib.Dec.{eqb}
-use lib.ListN.{length, get_or, drop}
+use lib.ListN.{length, get_or, take, drop}
 use borrow.Author.Tests.{eq-eqb, ne_eqb}
+use Rattle.std.specs.List.{list_any}
+use Rattle.std.proofs.lemmas.List.Folds.{list_any_more}
+use Rattle.std.proofs.Math.Bool.{or_comm}
 use Rattle.theory.specs.Words.{tail_of}
 use Rattle.theory.specs.Origins.{plain_of, chooses, chosen}
 use Rattle.theory.proofs.origins.Folds.{gather, gathering_go, gathering_end}
@@ -44,36 +46,20 @@ module _ (set w : ℕ) (ws : List ℕ) (i : ℕ) where
   listed_end h = gathering_end set (λ v r. eqb v w || r) false (stands_in w) (stands_gather w) ws i h
 
 -- ── the added words ──
--- The last of the added words, and those before it.
-pub held_last : (l : List ℕ) (i : ℕ) → 0 < i → held l i ≡ get_or l (i - 1) 0 ∷ held l (i - 1)
-unfolding held
-held_last l zero h = absurd (not-suc-le-zero h)
-held_last l (suc i) h = rw (sub-one (suc i))
+-- A test of some of the first c words, from the last on, is a test of some of them from the first on.
+module _ (p : ℕ → Bool) (f : List ℕ → Bool) (none : f [] ≡ false) (more : (v : ℕ) (l : List ℕ) → f (v ∷ l) ≡ (p v || f l)) where
+  held_any : (l : List ℕ) (c : ℕ) → c ≤ length l → f (held l c) ≡ list_any p (take c l)
+  unfolding held
+  held_any l zero h = none
+  held_any l (suc c) h = more (get_or l c 0) (held l c) ∙ rw (held_any l c (omega arith), ← add-one c) (or_comm (p (get_or l c 0)) (list_any p (take c l)) ∙ sym (list_any_more p l c 0 h))
 
-module _ (l : List ℕ) (w i : ℕ) where
-  pub added_here : 0 < i → get_or l (i - 1) 0 ≡ w → stands_in w (held l i) ≡ true
-  unfolding stands_in
-  added_here h e = rw (held_last l i h, eq-eqb (get_or l (i - 1) 0) w e)
+pub added_any : (l : List ℕ) (w c : ℕ) → c ≤ length l → stands_in w (held l c) ≡ list_any (λ v. eqb v w) (take c l)
+unfolding stands_in
+added_any l w c h = held_any (λ v. eqb v w) (stands_in w) refl (λ v l. refl) l c h
 
-  pub added_go : 0 < i → (get_or l (i - 1) 0 ≡ w → ⊥) → stands_in w (held l i) ≡ stands_in w (held l (i - 1))
-  unfolding stands_in
-  added_go h e = rw (held_last l i h, ne_eqb (get_or l (i - 1) 0) w e)
-
-  pub added_end : i ≤ 0 → stands_in w (held l i) ≡ false
-  unfolding stands_in held
-  added_end h = let e : i ≡ 0 = omega arith in rw e
-
-  pub about_here : 0 < i → tail_of (get_or l (i - 1) 0) ≡ w → about w (held l i) ≡ true
-  unfolding about
-  about_here h e = rw (held_last l i h, eq-eqb (tail_of (get_or l (i - 1) 0)) w e)
-
-  pub about_go : 0 < i → (tail_of (get_or l (i - 1) 0) ≡ w → ⊥) → about w (held l i) ≡ about w (held l (i - 1))
-  unfolding about
-  about_go h e = rw (held_last l i h, ne_eqb (tail_of (get_or l (i - 1) 0)) w e)
-
-  pub about_end : i ≤ 0 → about w (held l i) ≡ false
-  unfolding about held
-  about_end h = let e : i ≡ 0 = omega arith in rw e
+pub about_any : (l : List ℕ) (n c : ℕ) → c ≤ length l → about n (held l c) ≡ list_any (λ v. eqb (tail_of v) n) (take c l)
+unfolding about
+about_any l n c h = held_any (λ v. eqb (tail_of v) n) (about n) refl (λ v l. refl) l c h
 
 -- One of the two lists has the word.
 pub given_added : (ws A : List ℕ) (w : ℕ) (r : Bool) → r ≡ stands_in w A → r ≡ true → true ≡ given ws A w

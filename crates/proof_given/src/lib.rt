@@ -13,14 +13,9 @@ pub fn is_listed(words: &[u32], set: u32, word: u32) -> bool
     requires { Entered words.now }
     ensures { result ≡ stands_in word (chosen set words.now) }
 {
-    let mut i = 0;
-    while i < words.len() {
-        let link = words[i];
-        i += 1;
-        if is_chosen(set, link) {
-            if plain_of(link) == word {
-                return true;
-            }
+    for &link in words {
+        if is_chosen(set, link) && plain_of(link) == word {
+            return true;
         }
     }
     false
@@ -31,14 +26,7 @@ fn is_added(added: &[u32], count: usize, word: u32) -> bool
     requires { count ≤ length added.now }
     ensures { result ≡ stands_in word (held added.now count) }
 {
-    let mut i = count;
-    while 0 < i {
-        i -= 1;
-        if added[i] == word {
-            return true;
-        }
-    }
-    false
+    added[..count].contains(&word)
 }
 
 // Whether one of the first `count` added words is about node `n`.
@@ -46,18 +34,11 @@ pub fn is_about(added: &[u32], count: usize, n: usize) -> bool
     requires { count ≤ length added.now }
     ensures { result ≡ about n (held added.now count) }
 {
-    let mut i = count;
-    while 0 < i {
-        i -= 1;
-        if tail_of(added[i]) == n {
-            return true;
-        }
-    }
-    false
+    added[..count].iter().any(|&word| tail_of(word) == n)
 }
 
-// Whether a word may be used: it was added, or is a chosen one of the net. The added ones come first: they are few, and the last of them is the
-// axiom wherever a proof of ours has one beside a link.
+// Whether a word may be used: it was added, or is a chosen one of the net. The added ones come first: they are few, and the axiom beside a link is among
+// them in every proof of ours.
 pub fn is_given(words: &[u32], set: u32, added: &[u32], count: usize, word: u32) -> bool
     requires entered { Entered words.now }
     requires room { count ≤ length added.now }

@@ -1,8 +1,9 @@
--- One step more in front of the list: the loop goes from the last link down.
+-- One step more in front of the list: the last link comes first.
 use Prim.Native.Nat.{ℕ, suc, ◌+◌, ◌-◌, ◌*◌, ◌/◌, ◌≤◌, ◌<◌}
 use mathlib.Core.Path.{◌≡◌, refl, ap, ◌∙◌}
 use mathlib.Core.List.{List, [], ◌∷◌, ◌++◌, append_assoc}
 use native.Mathlib.Omega.{arith}
+use native.Mathlib.Numerals.{add-one}
 use lib.ListN.{length, set}
 use Rattle.theory_laws.specs.Over.{over}
 use Rattle.theory_laws.proofs.Over.{over_one}
@@ -43,25 +44,25 @@ pub used_range : (h : Hop) (k : Link) → k ≡ link_of h → (4 ≤ k.rule) × 
 used_range h k e = rw e (rule_range h.rule)
 
 module _ (ws p : List ℕ) (f m a : ℕ) (l : List ℕ) where
-  -- What the loop has written where `left` links are left.
+  -- What the loop has written where it has written i links.
   abbrev pub used_from : ℕ → List ℕ
-  used_from left = use_steps a (hops_from ws p (f + left) (m - left))
+  used_from i = use_steps a (hops_from ws p (f + (m - i)) i)
 
-  pub uses_start : l ≡ over (used_from m) l
+  pub uses_start : l ≡ over (used_from 0) l
   unfolding use_steps hops_from
-  uses_start = let e : m - m ≡ 0 = omega arith in rw e
+  uses_start = refl
 
-  pub uses_end : (left : ℕ) (xs : List ℕ) → left ≤ 0 → xs ≡ over (used_from left) l → xs ≡ over (use_steps a (hops_from ws p f m)) l
-  uses_end left xs h e = let z : left ≡ 0 = omega arith in let i : f + 0 ≡ f = omega arith in let n : m - 0 ≡ m = omega arith in rw (z, i, n) at e
+  pub uses_end : (i : ℕ) (xs : List ℕ) → i ≤ m → m ≤ i → xs ≡ over (used_from i) l → xs ≡ over (use_steps a (hops_from ws p f m)) l
+  uses_end i xs h g e = let z : i ≡ m = omega arith in let n : f + (m - m) ≡ f = omega arith in rw (z, n) at e
 
-  pub uses_more : (left at : ℕ) (xs : List ℕ) (k : Link) (w : ℕ) → 0 < left → left ≤ m → at ≡ 3 * (m - left) → 3 * m ≤ length l → xs ≡ over (used_from left) l → k ≡ link_of (hop_at ws p (f + (left - 1)))
-      → w ≡ k.tail * 2048 + k.head * 2 + (k.rule - 4) / 2 → set (set (set xs at k.rule) (at + 1) a) (at + 2) w ≡ over (used_from (left - 1)) l
-  uses_more left at xs k w h g ea r ex ek ew =
-      let i = f + (left - 1) in
-      let n : m - (left - 1) ≡ suc (m - left) = omega arith in
-      let si : f + left ≡ suc i = omega arith in
-      let lu = length_uses a (hops_from ws p (f + left) (m - left)) in
-      let lf = length_from ws p a (f + left) (m - left) in
-      let w' : w ≡ word (hop_at ws p i).tail (hop_at ws p i).head (uses (hop_at ws p i).rule) = ew ∙ rw (ek, used_sign (hop_at ws p i).rule) in
-      let step = three_over (used_from left) l xs at k.rule a w ex (omega arith) (omega arith) in
-      step ∙ rw (n, uses_go ws p a i (m - left), si, ek, w')
+  pub uses_more : (i : ℕ) (xs : List ℕ) (k : Link) (w : ℕ) → i < m → 3 * m ≤ length l → xs ≡ over (used_from i) l → k ≡ link_of (hop_at ws p (f + (m - i - 1)))
+      → w ≡ k.tail * 2048 + k.head * 2 + (k.rule - 4) / 2 → set (set (set xs (3 * i) k.rule) (3 * i + 1) a) (3 * i + 2) w ≡ over (used_from (i + 1)) l
+  uses_more i xs k w h r ex ek ew =
+      let j = f + (m - i - 1) in
+      let n : m - (i + 1) ≡ m - i - 1 = omega arith in
+      let si : f + (m - i) ≡ suc j = omega arith in
+      let lu = length_uses a (hops_from ws p (f + (m - i)) i) in
+      let lf = length_from ws p a (f + (m - i)) i in
+      let w' : w ≡ word (hop_at ws p j).tail (hop_at ws p j).head (uses (hop_at ws p j).rule) = ew ∙ rw (ek, used_sign (hop_at ws p j).rule) in
+      let step = three_over (used_from i) l xs (3 * i) k.rule a w ex (omega arith) (omega arith) in
+      step ∙ rw (n, add-one i, uses_go ws p a j i, si, ek, w')

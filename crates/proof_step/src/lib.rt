@@ -43,15 +43,11 @@ pub fn write_uses(
     requires room { (first + links + 2 < length path.now) × (3 * links ≤ length list.old) }
     ensures { list.new ≡ over (use_steps node (hops_from (chosen set words.now) path.now first links)) list.old }
 {
-    let mut left = links;
-    let mut at: usize = 0;
-    while 0 < left {
-        left -= 1;
+    for i in 0..links {
+        let left = links - i - 1;
         let link = link_at(words, set, path, first + left);
-        let rule = link.rule;
-        let word = used_word(rule, link.tail, link.head);
-        put_step(list, at, rule, node, word);
-        at += 3;
+        let word = used_word(link.rule, link.tail, link.head);
+        put_step(list, 3 * i, link.rule, node, word);
     }
 }
 
@@ -83,12 +79,10 @@ pub fn write_closes(
     requires room { (first + links + 2 < length path.now) × (3 * links ≤ length list.old) × (node ≤ 1024) }
     ensures { list.new ≡ over (close_steps node (hops_from (chosen set words.now) path.now first links)) list.old }
 {
-    let mut i: usize = 0;
-    while i < links {
+    for i in 0..links {
         let link = link_at(words, set, path, first + i);
         let word = close_word(link.rule, node, link.tail, link.head);
         put_step(list, 3 * i, word % 2, node, word);
-        i += 1;
     }
 }
 
@@ -97,10 +91,8 @@ pub fn write_nested(base: usize, step: usize, count: usize, list: &mut [u32])
     requires { (2 * count ≤ length list.old) × (base + 3 * (step + count) ≤ 4294967295) }
     ensures { list.new ≡ over (nested base step count) list.old }
 {
-    let mut i: usize = 0;
-    while i < count {
+    for i in 0..count {
         list[2 * i] = (base + 3 * (step + i + 1)) as u32;
         list[2 * i + 1] = (1 + 2 * (count - i - 1)) as u32;
-        i += 1;
     }
 }

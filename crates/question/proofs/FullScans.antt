@@ -1,4 +1,6 @@
 -- The full scan, in the terms of the code.
+use Rattle.scan.specs.declared.ScanError.TheVariants.{Refused, Spent}
+use Rattle.std.specs.Prelude.{Err, Ok}
 use Prim.Native.Nat.{ℕ, ◌+◌, ◌<◌, ◌≤◌}
 use mathlib.Core.Path.{◌≡◌, refl, sym, ap, subst, ◌∙◌}
 use mathlib.Core.Bool.{Bool, true, false, cond}
@@ -16,8 +18,7 @@ use Rattle.theory.proofs.machine.Bounds.{scan_long}
 use Rattle.net.specs.Clauses.{call}
 use Rattle.scan.proofs.Outcomes.{scan_end, scan_end_lem}
 use Rattle.scan.specs.Table.{ScanOutcome, scan_outcome, scan_clauses, scan_done}
-use Rattle.scan.specs.declared.Scanned.{Scanned}
-use Rattle.scan.specs.declared.Scanned.TheVariants.{Done, Spent, Refused}
+use Rattle.scan.specs.Table.{Scanned}
 
 -- What the loop over links asks of a net.
 pub net_inside : (o k n : ℕ) (ws : List ℕ) → n ≡ o + k → NetFrom o k ws → InsideFrom n ws × (n ≤ 1024)
@@ -25,11 +26,11 @@ net_inside o k n ws e h = (rw e (inside_from o k ws h), rw e h.few)
 
 -- The count that an answer carries.
 abbrev pub count_of : Scanned → ℕ
-count_of (Done c) = c
-count_of (Spent c) = c
-count_of (Refused r) = 0
+count_of (Ok c) = c
+count_of (Err (Spent c)) = c
+count_of (Err (Refused r)) = 0
 
-count_ran : (d : Bool) (c : ℕ) → count_of (cond d (Done c) (Spent c)) ≡ c
+count_ran : (d : Bool) (c : ℕ) → count_of (cond d (Ok c) (Err (Spent c))) ≡ c
 count_ran true c = refl
 count_ran false c = refl
 

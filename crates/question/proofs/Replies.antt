@@ -1,4 +1,5 @@
 -- The reply tells what a question answered.
+use Rattle.std.specs.Prelude.{Err, Ok}
 use Prim.Native.Nat.{ℕ, zero, suc}
 use mathlib.Core.Path.{◌≡◌, refl, sym, ap, ◌∙◌}
 use mathlib.Core.Bool.{cond}
@@ -8,8 +9,7 @@ use Rattle.net.proofs.Replies.{refusal_at, refusal_at_reply, refusal_not}
 use Rattle.question.specs.Table.{asked_reply}
 use Rattle.question.specs.declared.Answer.{Answer}
 use Rattle.question.specs.declared.Answer.TheVariants.{None, Yes, No, Both}
-use Rattle.question.specs.declared.Asked.{Asked}
-use Rattle.question.specs.declared.Asked.TheVariants as asked
+use Rattle.question.specs.Table.{Asked}
 
 -- The answer of a number.
 abbrev answer_of : ℕ → Answer
@@ -20,14 +20,14 @@ answer_of (suc (suc (suc n))) = Both
 
 -- The answer of a reply.
 abbrev asked_at : Reply → Asked
-asked_at r = cond (eqb r.number 0) (asked.Done (answer_of r.first) r.second) (asked.Refused (refusal_at r))
+asked_at r = cond (eqb r.number 0) (Ok ((answer_of r.first), r.second)) (Err (refusal_at r))
 
 asked_at_reply : (r : Asked) → asked_at (asked_reply r) ≡ r
-asked_at_reply (asked.Done None count) = refl
-asked_at_reply (asked.Done Yes count) = refl
-asked_at_reply (asked.Done No count) = refl
-asked_at_reply (asked.Done Both count) = refl
-asked_at_reply (asked.Refused r) = rw (refusal_not r 0 refl, refusal_at_reply r)
+asked_at_reply (Ok (None, count)) = refl
+asked_at_reply (Ok (Yes, count)) = refl
+asked_at_reply (Ok (No, count)) = refl
+asked_at_reply (Ok (Both, count)) = refl
+asked_at_reply (Err r) = rw (refusal_not r 0 refl, refusal_at_reply r)
 
 -- No two answers to a question have one reply.
 pub asked_reply_one_to_one : (r q : Asked) → asked_reply r ≡ asked_reply q → r ≡ q

@@ -7,23 +7,16 @@ ghost use Rattle.theory.specs.Origins.{chosen, NetFrom};
 ghost use Rattle.question.specs.Table.{answer_at, answer_number, question_outcome, question_clauses, question_done, questioned};
 ghost use Rattle.net.specs.Clauses.{call};
 
-use net::{Checked, Refusal, check_net, is_bad_pair};
-use scan::{Scanned, scan_net};
+use net::{Refusal, check_net, is_bad_pair};
+use scan::{ScanError, scan_net};
 
 // The four answers.
-#[derive(Drop)]
+#[derive(Clone, Copy)]
 pub enum Answer {
     None,
     Yes,
     No,
     Both,
-}
-
-// What a question answers: the word with the count of rounds, or a refusal.
-#[derive(Drop)]
-pub enum Asked {
-    Done(Answer, u32),
-    Refused(Refusal),
 }
 
 // The full scan from `x` of the chosen words of a net that was checked: its marks at the nodes, the bytes past them as they were, and the count of its rounds.
@@ -39,9 +32,9 @@ pub fn full_scan(o: u32, k: u32, n: usize, words: &[u32], set: u32, x: u32, mark
 {
     let ran = scan_net(n, words, set, x, (3 * n - 1) as u32, marks);
     match ran {
-        Scanned::Done(count) => count,
-        Scanned::Spent(count) => count,
-        Scanned::Refused(_) => 0,
+        Ok(count) => count,
+        Err(ScanError::Spent(count)) => count,
+        Err(ScanError::Refused(_)) => 0,
     }
 }
 
@@ -74,7 +67,7 @@ pub fn answer_number(answer: Answer) -> u8
     }
 }
 
-// The question whether `x` is `y`.
+// The question whether `x` is `y`: the word, and the count of rounds.
 pub fn ask_question(
     o: u32,
     k: u32,
@@ -83,14 +76,11 @@ pub fn ask_question(
     x: u32,
     y: u32,
     marks: &mut [u8],
-) -> Asked
+) -> Result<(Answer, u32), Refusal>
     ensures { question_outcome result marks.new ≡ questioned o k words.now set x y marks.old }
 {
-    let net = check_net(o, k, words, set);
-    match net {
-        Checked::Refused(refusal) => Asked::Refused(refusal),
-        Checked::Nodes(n) => question_net(o, k, n, words, set, x, y, marks),
-    }
+    let n = check_net(o, k, words, set)?;
+    question_net(o, k, n, words, set, x, y, marks)
 }
 
 // Numbers 4, 5 and 0, on a net that was checked.
@@ -103,19 +93,19 @@ fn question_net(
     x: u32,
     y: u32,
     marks: &mut [u8],
-) -> Asked
+) -> Result<(Answer, u32), Refusal>
     requires net { NetFrom o k words.now }
     requires size { n ≡ o + k }
     ensures { question_outcome result marks.new ≡ call (question_clauses o x y marks.old n) (question_done (chosen set words.now) x y marks.old n) }
 {
     if is_bad_pair(o, n, x, y) {
-        return Asked::Refused(Refusal::BadQuestion);
+        return Err(Refusal::BadQuestion);
     }
     if marks.len() < n {
-        return Asked::Refused(Refusal::ShortBuffer);
+        return Err(Refusal::ShortBuffer);
     }
     let count = full_scan(o, k, n, words, set, x, marks);
     let at = y as usize;
     let byte = marks[at];
-    Asked::Done(answer_at(byte), count)
+    Ok((answer_at(byte), count))
 }

@@ -1,4 +1,5 @@
 -- The bytes and the marks of pairs, in the terms of a loop that has come to pair i.
+use Rattle.std.specs.Prelude.{Err}
 use Prim.Native.Nat.{ℕ, zero, suc, ◌+◌, ◌-◌, ◌<◌, ◌≤◌}
 use mathlib.Core.Path.{◌≡◌, refl, sym, ap, ◌∙◌}
 use mathlib.Core.Bool.{Bool, true, false, cond}
@@ -14,15 +15,14 @@ use Rattle.net.specs.Clauses.{call}
 use Rattle.net.specs.Table.{bad_pair}
 use Rattle.net.specs.declared.Refusal.TheVariants.{BadQuestion}
 use Rattle.question.specs.Table.{QuestionOutcome, question_outcome, question_clauses, question_done, read_at, answer_at, answer_number}
-use Rattle.question.specs.declared.Asked.{Asked}
-use Rattle.question.specs.declared.Asked.TheVariants as asked
+use Rattle.question.specs.Table.{Asked}
 use Rattle.questions.specs.Pairs.{subject_at, kind_at}
 use Rattle.questions.specs.Table.{asked_byte, answer_byte, marks_after, answers_from, marks_from}
 
 -- What a single question with room for its marks gives and leaves.
 module _ (o n : ℕ) (ws : List ℕ) (x y : ℕ) (m : List ℕ) (room : n ≤ length m) where
   tested : (bad : Bool)
-      → let q = cond bad (question_outcome (asked.Refused BadQuestion) m) (read_at y (full_scan n ws x) (drop n m)) in
+      → let q = cond bad (question_outcome (Err BadQuestion) m) (read_at y (full_scan n ws x) (drop n m)) in
       (asked_byte q.answer ≡ cond bad 255 (answer_number (answer_at (get_or (full_scan n ws x).marks y 0)))) × (q.marks ≡ cond bad m ((full_scan n ws x).marks ++ drop n m))
   tested true = (refl, refl)
   tested false = (refl, refl)

@@ -4,20 +4,28 @@
 ghost use Rattle.std.specs.Prelude.{◌≡◌, ◌+◌, ◌≤◌, length};
 ghost use Rattle.theory_laws.specs.Over.{over};
 ghost use Rattle.theory.specs.Origins.{chosen, NetFrom};
+ghost use Rattle.questions.specs.declared.PairsError.TheVariants.{Refused};
 ghost use Rattle.net.specs.Clauses.{call};
 ghost use Rattle.questions.specs.Pairs.{pairs_in};
 ghost use Rattle.questions.specs.Table.{asked_byte, answers_from, marks_from, bad_pairs, questions_outcome, questions_clauses, questions_done, questioned_all};
 
-use net::{Checked, Refusal, check_net};
-use question::{Asked, answer_number};
+use net::{Refusal, check_net};
+use question::{Answer, answer_number};
 use questions_pair::{Held, ask_pair};
 
-// What a screenful of questions answers: that all pairs have their byte, that the pairs are not as they should be (number 10), or a refusal.
-#[derive(Drop)]
-pub enum AskedAll {
-    Done,
+// Why a screenful of questions has no answers: the pairs are not as they should be (number 10), or a refusal.
+#[derive(Clone, Copy)]
+pub enum PairsError {
     BadPairs,
     Refused(Refusal),
+}
+
+impl From<Refusal> for PairsError {
+    ghost from_gives = { λ refusal e. e ≡ Refused refusal };
+
+    fn from(refusal: Refusal) -> PairsError {
+        PairsError::Refused(refusal)
+    }
 }
 
 // The most pairs, and the byte of a bad one.
@@ -26,12 +34,12 @@ pub const PAIR_LIMIT: usize = 64;
 pub const BAD_PAIR: u8 = 255;
 
 // The byte of what a question answers.
-fn asked_byte(asked: Asked) -> u8
+fn asked_byte(asked: Result<(Answer, u32), Refusal>) -> u8
     ensures { result ≡ asked_byte asked }
 {
     match asked {
-        Asked::Done(answer, _) => answer_number(answer),
-        Asked::Refused(_) => BAD_PAIR,
+        Ok((answer, _)) => answer_number(answer),
+        Err(_) => BAD_PAIR,
     }
 }
 
@@ -69,15 +77,13 @@ fn ask_pairs(
 {
     let count = pairs.len() / 2;
     let mut held = Held { node: n, count: 0 };
-    let mut i = 0;
-    while i < count {
+    for i in 0..count {
         let x = pairs[2 * i] as u32;
         let y = pairs[2 * i + 1] as u32;
         let turn = ask_pair(o, k, n, words, set, x, y, held, marks);
         let asked = turn.asked;
         held = turn.held;
         answers[i] = asked_byte(asked);
-        i += 1;
     }
 }
 
@@ -91,20 +97,20 @@ fn questions_net(
     pairs: &[u16],
     answers: &mut [u8],
     marks: &mut [u8],
-) -> AskedAll
+) -> Result<(), PairsError>
     requires net { NetFrom o k words.now }
     requires size { n ≡ o + k }
     ensures { questions_outcome result answers.new marks.new
         ≡ call (questions_clauses pairs.now answers.old marks.old n) (questions_done o (chosen set words.now) pairs.now answers.old marks.old n) }
 {
     if are_bad_pairs(pairs.len(), answers.len()) {
-        return AskedAll::BadPairs;
+        return Err(PairsError::BadPairs);
     }
     if marks.len() < n {
-        return AskedAll::Refused(Refusal::ShortBuffer);
+        return Err(PairsError::Refused(Refusal::ShortBuffer));
     }
     ask_pairs(o, k, n, words, set, pairs, answers, marks);
-    AskedAll::Done
+    Ok(())
 }
 
 // The questions of all pairs. Questions in a row about one node cost one scan.
@@ -116,12 +122,9 @@ pub fn ask_all(
     pairs: &[u16],
     answers: &mut [u8],
     marks: &mut [u8],
-) -> AskedAll
+) -> Result<(), PairsError>
     ensures { questions_outcome result answers.new marks.new ≡ questioned_all o k words.now set pairs.now answers.old marks.old }
 {
-    let net = check_net(o, k, words, set);
-    match net {
-        Checked::Refused(refusal) => AskedAll::Refused(refusal),
-        Checked::Nodes(n) => questions_net(o, k, n, words, set, pairs, answers, marks),
-    }
+    let n = check_net(o, k, words, set)?;
+    questions_net(o, k, n, words, set, pairs, answers, marks)
 }

@@ -8,7 +8,7 @@ ghost use Rattle.question.specs.Table.{question_outcome, question_clauses, quest
 ghost use Rattle.questions_pair.specs.Holding.{Stands, Known};
 
 use net::{Refusal, is_bad_pair};
-use question::{Asked, answer_at, full_scan};
+use question::{Answer, answer_at, full_scan};
 
 // The node whose full scan stands in a buffer of marks, and the count of its rounds. Where `node` is none, nothing is known of the marks.
 #[derive(Clone, Copy)]
@@ -20,7 +20,7 @@ pub struct Held {
 // What a question gives: its answer, and what the buffer holds after it.
 #[derive(Drop)]
 pub struct Turn {
-    pub asked: Asked,
+    pub asked: Result<(Answer, u32), Refusal>,
     pub held: Held,
 }
 
@@ -50,10 +50,7 @@ fn hold(
         return held;
     }
     let count = full_scan(o, k, n, words, set, x, marks);
-    Held {
-        node: node,
-        count: count,
-    }
+    Held { node, count }
 }
 
 // The question whether `x` is `y`, on a net that was checked and with marks that are long enough.
@@ -78,15 +75,15 @@ pub fn ask_pair(
 {
     if is_bad_pair(o, n, x, y) {
         return Turn {
-            asked: Asked::Refused(Refusal::BadQuestion),
-            held: held,
+            asked: Err(Refusal::BadQuestion),
+            held,
         };
     }
     let now_held = hold(o, k, n, words, set, x, held, marks);
     let at = y as usize;
     let byte = marks[at];
     Turn {
-        asked: Asked::Done(answer_at(byte), now_held.count),
+        asked: Ok((answer_at(byte), now_held.count)),
         held: now_held,
     }
 }

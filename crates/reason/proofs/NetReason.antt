@@ -1,4 +1,6 @@
 -- The table's clauses for a net of n nodes, and the net's facts that the search and the walk ask for.
+use Rattle.reason.specs.declared.ReasonError.TheVariants.{Refused}
+use Rattle.std.specs.Prelude.{Ok, Err}
 use Prim.Native.Nat.{ℕ, ◌+◌, ◌≤◌, ◌<◌}
 use mathlib.Core.Path.{◌≡◌, sym, ap, ◌∙◌}
 use mathlib.Core.Bool.{Bool, true, false}
@@ -16,16 +18,14 @@ use Rattle.theory.proofs.reason.Searching.{next_state}
 use Rattle.net.specs.Clauses.{call}
 use Rattle.net.specs.Table.{check_net, bad_statement}
 use Rattle.net.specs.declared.Refusal.TheVariants.{BadQuestion, ShortBuffer}
-use Rattle.net.specs.declared.Checked.TheVariants as checked
 use Rattle.net.proofs.NetCheck.{chosen_checked}
 use Rattle.reason_walk.specs.Walk.{Leads}
 use Rattle.reason.specs.Table.{reason_outcome, reason_clauses, reason_done}
 use Rattle.reason.specs.Searched.{reason_from}
-use Rattle.reason.specs.declared.Reasoned.{Reasoned}
-use Rattle.reason.specs.declared.Reasoned.TheVariants.{Refused}
+use Rattle.reason.specs.Table.{Reasoned}
 
 -- What passes the check is a net for the search too, where every node counts as a kind.
-pub searched_net : (o k : ℕ) (ws : List ℕ) (set n : ℕ) → check_net o k ws set ≡ checked.Nodes n → NetFrom 0 n ws
+pub searched_net : (o k : ℕ) (ws : List ℕ) (set n : ℕ) → check_net o k ws set ≡ Ok n → NetFrom 0 n ws
 searched_net o k ws set n e =
     let (same, net, _) = chosen_checked o k ws set e in
     record {
@@ -59,7 +59,7 @@ module _ (n : ℕ) (s : Sign) (ws : List ℕ) (y : ℕ) (d b : List ℕ) (found 
 -- The code's test of the statement said `bad`.
 module _ (o n : ℕ) (ws : List ℕ) (x y sign : ℕ) (d l : List ℕ) {bad : Bool} (told : bad ≡ bad_statement o n x y sign) where
   -- Number 4.
-  pub net_bad : bad ≡ true → reason_outcome (Refused BadQuestion) d l ≡ call (reason_clauses o ws x y sign d l n) (reason_done ws x y sign d l n)
+  pub net_bad : bad ≡ true → reason_outcome (Err (Refused BadQuestion)) d l ≡ call (reason_clauses o ws x y sign d l n) (reason_done ws x y sign d l n)
   net_bad h = rw (← told, h)
 
   module _ (said : bad ≡ false) where
@@ -67,7 +67,7 @@ module _ (o n : ℕ) (ws : List ℕ) (x y sign : ℕ) (d l : List ℕ) {bad : Bo
     good = sym told ∙ said
 
     -- Number 5.
-    pub net_short : length d < n + n → reason_outcome (Refused ShortBuffer) d l ≡ call (reason_clauses o ws x y sign d l n) (reason_done ws x y sign d l n)
+    pub net_short : length d < n + n → reason_outcome (Err (Refused ShortBuffer)) d l ≡ call (reason_clauses o ws x y sign d l n) (reason_done ws x y sign d l n)
     net_short h = rw (good, lt-ltb (length d) (n + n) h)
 
     -- Numbers 7, 8 and 0 over the distances.

@@ -1,4 +1,6 @@
 -- Numbers 7, 8 and 0 over places that are found, in the terms of the code.
+use Rattle.reason.specs.declared.ReasonError.TheVariants.{Short, Unsupported}
+use Rattle.std.specs.Prelude.{Err, Ok}
 use Prim.Native.Nat.{ℕ, suc, ◌+◌, ◌-◌, ◌≤◌, ◌<◌}
 use mathlib.Core.Path.{◌≡◌, refl, sym, ap, ◌∙◌}
 use mathlib.Core.Bool.{false}
@@ -17,7 +19,6 @@ use Rattle.reason_walk.specs.Walk.{states_from}
 use Rattle.reason_walk.proofs.Nearer.{part_small}
 use Rattle.reason.specs.Table.{reason_outcome}
 use Rattle.reason.specs.Searched.{reason_from}
-use Rattle.reason.specs.declared.Reasoned.TheVariants.{Done, Unsupported, Short}
 
 map_length : (f : ℕ → ℕ) (p : List ℕ) → length (map f p) ≡ length p
 map_length f [] = refl
@@ -71,7 +72,7 @@ module _ (n : ℕ) (s : Sign) (ws : List ℕ) (x : ℕ) (d l : List ℕ) (inside
   all_length = ap length (list_is n x states) ∙ omega (arith, map_length (node_of n) states, length_states, same_place)
 
   -- Number 7.
-  pub from_unsupported : get_or d x 0 ≡ never → (past : List ℕ) → reason_outcome Unsupported past l ≡ reason_from n s ws x d past l
+  pub from_unsupported : get_or d x 0 ≡ never → (past : List ℕ) → reason_outcome (Err Unsupported) past l ≡ reason_from n s ws x d past l
   from_unsupported e past = rw (eq-eqb (get_or d x never) never (same_place ∙ e))
 
   module _ (found : get_or d x 0 ≡ never → ⊥) where
@@ -79,7 +80,7 @@ module _ (n : ℕ) (s : Sign) (ws : List ℕ) (x : ℕ) (d l : List ℕ) (inside
     not_never = ne_eqb (get_or d x never) never (λ (e : get_or d x never ≡ never). found (sym same_place ∙ e))
 
     -- Number 8.
-    pub from_short : length l < 3 + get_or d x 0 → (past : List ℕ) → reason_outcome (Short (3 + get_or d x 0)) past l ≡ reason_from n s ws x d past l
+    pub from_short : length l < 3 + get_or d x 0 → (past : List ℕ) → reason_outcome (Err (Short (3 + get_or d x 0))) past l ≡ reason_from n s ws x d past l
     from_short h past = rw (not_never, all_length, lt-ltb (length l) (3 + get_or d x 0) h)
 
     all_is : (count : ℕ) → count ≡ firsts n states → reason_list n x states ≡ (1 + count) ∷ (get_or d x 0 - count) ∷ x ∷ map (node_of n) states
@@ -92,7 +93,7 @@ module _ (n : ℕ) (s : Sign) (ws : List ℕ) (x : ℕ) (d l : List ℕ) (inside
     pub from_done : {count : ℕ} {ys r : List ℕ} → 3 + get_or d x 0 ≤ length l → count ≡ firsts n states
         → ys ≡ map (node_of n) states ++ drop (get_or d x never) (take (length l - 3) (drop 3 l))
         → r ≡ (1 + count) ∷ (get_or d x 0 - count) ∷ x ∷ drop 3 (take 3 l ++ (ys ++ drop (length l - 3) (drop 3 l)))
-        → (past : List ℕ) → reason_outcome (Done (3 + get_or d x 0)) past r ≡ reason_from n s ws x d past l
+        → (past : List ℕ) → reason_outcome (Ok (3 + get_or d x 0)) past r ≡ reason_from n s ws x d past l
     from_done {count} {ys} {r} h e f g past =
         let rest : drop 3 (take 3 l ++ (ys ++ drop (length l - 3) (drop 3 l))) ≡ map (node_of n) states ++ drop (3 + get_or d x 0) l
         = lent_rest l (map (node_of n) states) (get_or d x never) (omega arith) f ∙ rw same_place refl in

@@ -6,20 +6,29 @@ ghost use Rattle.theory.specs.Words.{sign_at};
 ghost use Rattle.theory.specs.Origins.{chosen, NetFrom};
 ghost use Rattle.reason_walk.specs.Walk.{Leads};
 ghost use Rattle.reason.specs.Table.{reason_outcome, reason_clauses, reason_done, reasoned};
+ghost use Rattle.reason.specs.declared.ReasonError.TheVariants.{Refused};
 ghost use Rattle.reason.specs.Searched.{reason_from};
 ghost use Rattle.net.specs.Clauses.{call};
 
-use net::{Checked, Refusal, check_net, is_bad_statement};
+use net::{Refusal, check_net, is_bad_statement};
 use reason_search::{NEVER, find_distances};
 use reason_walk::write_nodes;
 
-// What a reason answers: the places written, that the statement is not supported (number 7), the places needed (number 8), or a refusal.
-#[derive(Drop)]
-pub enum Reasoned {
-    Done(u32),
+// Why there is no reason: the statement is not supported (number 7), the list is too short for the places needed, which are told (number 8), or a
+// refusal.
+#[derive(Clone, Copy)]
+pub enum ReasonError {
     Unsupported,
     Short(u32),
     Refused(Refusal),
+}
+
+impl From<Refusal> for ReasonError {
+    ghost from_gives = { λ refusal e. e ≡ Refused refusal };
+
+    fn from(refusal: Refusal) -> ReasonError {
+        ReasonError::Refused(refusal)
+    }
 }
 
 // The sizes of the two parts and the start, which stand in front of the other nodes.
@@ -41,7 +50,7 @@ fn write_reason(
     places: &[u16],
     x: usize,
     list: &mut [u16],
-) -> Reasoned
+) -> Result<u32, ReasonError>
     requires net { NetFrom 0 n words.now }
     requires room { length places.now ≡ n + n }
     requires leads { Leads n (sign_at sign) (chosen set words.now) places.now }
@@ -50,16 +59,16 @@ fn write_reason(
 {
     let far = places[x];
     if far == NEVER {
-        return Reasoned::Unsupported;
+        return Err(ReasonError::Unsupported);
     }
     let links = far as usize;
     let size = 3 + far as u32;
     if list.len() < size as usize {
-        return Reasoned::Short(size);
+        return Err(ReasonError::Short(size));
     }
     let count = write_nodes(n, sign, words, set, places, x, &mut list[3..]);
     write_head((1 + count) as u16, (links - count) as u16, x as u16, list);
-    Reasoned::Done(size)
+    Ok(size)
 }
 
 // Numbers 4 and 5, then the distances and the reason, for a net of `n` nodes.
@@ -73,16 +82,16 @@ fn reason_net(
     sign: u32,
     scratch: &mut [u16],
     list: &mut [u16],
-) -> Reasoned
+) -> Result<u32, ReasonError>
     requires { NetFrom 0 n words.now }
     ensures { reason_outcome result scratch.new list.new ≡ call (reason_clauses o (chosen set words.now) x y sign scratch.old list.old n) (reason_done (chosen set words.now) x y sign scratch.old list.old n) }
 {
     if is_bad_statement(o, n, x, y, sign) {
-        return Reasoned::Refused(Refusal::BadQuestion);
+        return Err(ReasonError::Refused(Refusal::BadQuestion));
     }
     let size = n + n;
     if scratch.len() < size {
-        return Reasoned::Refused(Refusal::ShortBuffer);
+        return Err(ReasonError::Refused(Refusal::ShortBuffer));
     }
     find_distances(n, sign, words, set, y as usize, &mut scratch[..size]);
     write_reason(n, sign, words, set, &scratch[..size], x as usize, list)
@@ -99,12 +108,9 @@ pub fn find_reason(
     sign: u32,
     scratch: &mut [u16],
     list: &mut [u16],
-) -> Reasoned
+) -> Result<u32, ReasonError>
     ensures { reason_outcome result scratch.new list.new ≡ reasoned o k words.now set x y sign scratch.old list.old }
 {
-    let net = check_net(o, k, words, set);
-    match net {
-        Checked::Nodes(n) => reason_net(o, n, words, set, x, y, sign, scratch, list),
-        Checked::Refused(refusal) => Reasoned::Refused(refusal),
-    }
+    let n = check_net(o, k, words, set)?;
+    reason_net(o, n, words, set, x, y, sign, scratch, list)
 }

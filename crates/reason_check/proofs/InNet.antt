@@ -1,4 +1,5 @@
 -- A list that names a node outside the net fails: every node of a path is the start, or an end of a link, or a kind.
+use Rattle.std.specs.Prelude.{Ok, false}
 use Prim.Native.Nat.{ℕ, ◌+◌, ◌<◌, ◌≤◌}
 use mathlib.Core.Path.{◌≡◌}
 use mathlib.Core.List.{List, [], ◌∷◌, ◌++◌, Memᴰ}
@@ -15,7 +16,6 @@ use Rattle.theory.proofs.Legal.{Legal, legal_links}
 use Rattle.theory.proofs.origins.Statements.{chosen_net}
 use Rattle.net.specs.Good.{GoodStatement}
 use Rattle.reason_check.specs.Table.{verdict}
-use Rattle.reason_check.specs.declared.Verdict.TheVariants.{Fails}
 use Rattle.reason_check.proofs.Exactly.{Accepted, fails_exactly}
 
 -- All of these are nodes of a net of n.
@@ -63,7 +63,7 @@ module _ (o k : ℕ) (L : Statements) (legal : Legal o k L) where
 
 -- Of what may be asked of a net: a list with a node outside it, past the two sizes, fails, whatever the set.
 pub outside_fails : (o k : ℕ) (ws : List ℕ) (set x y sign : ℕ) (l : List ℕ) → Accepted o k ws set → GoodStatement o (o + k) x y sign
-    → (v : ℕ) → Memᴰ v (drop 2 l) → o + k ≤ v → verdict o k ws set x y sign l ≡ Fails
+    → (v : ℕ) → Memᴰ v (drop 2 l) → o + k ≤ v → verdict o k ws set x y sign l ≡ Ok false
 outside_fails o k ws set x y sign l net may v m h = (fails_exactly o k ws set x y sign l).1 (net, may, no_path)
   where
     no_path : Passes o k (chosen set ws) x y (sign_at sign) l → ⊥

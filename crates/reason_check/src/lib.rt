@@ -8,16 +8,8 @@ ghost use Rattle.theory.specs.Origins.{chosen, NetFrom};
 ghost use Rattle.reason_check.specs.Table.{check_clauses, check_done, verdict};
 ghost use Rattle.net.specs.Clauses.{call};
 
-use net::{Checked, Refusal, check_net, is_bad_statement};
+use net::{Refusal, check_net, is_bad_statement};
 use reason_check_steps::steps_hold;
-
-// What the check answers: the list is a path of the net that shows the statement, or is not, or a refusal.
-#[derive(Drop)]
-pub enum Verdict {
-    Holds,
-    Fails,
-    Refused(Refusal),
-}
 
 // Whether a second part of `second` nodes goes with the sign asked.
 fn goes_with(sign: u32, second: u16) -> bool
@@ -68,17 +60,14 @@ fn check_list(
     y: u32,
     sign: u32,
     list: &[u16],
-) -> Verdict
+) -> Result<bool, Refusal>
     requires { NetFrom o k words.now }
     ensures { result ≡ call (check_clauses o x y sign n) (check_done o k (chosen set words.now) x y sign list.now) }
 {
     if is_bad_statement(o, n, x, y, sign) {
-        return Verdict::Refused(Refusal::BadQuestion);
+        return Err(Refusal::BadQuestion);
     }
-    if is_path(o, k, words, set, x, y, sign, list) {
-        return Verdict::Holds;
-    }
-    Verdict::Fails
+    Ok(is_path(o, k, words, set, x, y, sign, list))
 }
 
 // Whether `list` is a path of words that the set of origins chooses, and shows x → y (`sign` 0) or x ↛ y (`sign` 1).
@@ -91,12 +80,9 @@ pub fn check_reason(
     y: u32,
     sign: u32,
     list: &[u16],
-) -> Verdict
+) -> Result<bool, Refusal>
     ensures { result ≡ verdict o k words.now set x y sign list.now }
 {
-    let net = check_net(o, k, words, set);
-    match net {
-        Checked::Refused(refusal) => Verdict::Refused(refusal),
-        Checked::Nodes(n) => check_list(o, k, n, words, set, x, y, sign, list),
-    }
+    let n = check_net(o, k, words, set)?;
+    check_list(o, k, n, words, set, x, y, sign, list)
 }

@@ -18,6 +18,7 @@ pub fn steps_hold(o: u32, k: u32, words: &[u32], set: u32, list: &[u16]) -> bool
     let steps = list.len() - 3;
     let mut holds = true;
     let mut i: usize = 0;
+    // No `for`: one label leaves both loops at the first step that is neither a link nor a repeat, a form that is asked for (DECISIONS, "Required forms").
     'steps: while i < steps {
         let from = list[i + 2];
         let to = list[i + 3];

@@ -1,12 +1,9 @@
 -- The levels one after another, in the terms of the code.
 use Prim.Native.Nat.{ℕ, zero, suc, ◌+◌, ◌≤◌, ◌<◌}
 use mathlib.Core.Path.{◌≡◌, refl, sym, ap, ◌∙◌}
-use mathlib.Core.Bool.{Bool, true, false}
-use mathlib.Core.List.{List, [], ◌∷◌, ◌++◌, append-nil}
+use mathlib.Core.List.{List, [], ◌∷◌}
 use native.Mathlib.Omega.{arith}
 use lib.ListN.{length, get_or, set, drop, replicate}
-use lib.Seq.{drop-length}
-use Rattle.theory_laws.proofs.Booleans.{contradiction}
 use Rattle.theory.specs.Words.{sign_at}
 use Rattle.theory.specs.Nets.{Kind, Net}
 use Rattle.theory.specs.Reasons.{goal, never}
@@ -15,7 +12,6 @@ use Rattle.theory.specs.Origins.{chosen, NetFrom, EndsFrom}
 use Rattle.theory.proofs.Inside.{at_member}
 use Rattle.theory.proofs.origins.Folds.{chosen_level_go}
 use Rattle.theory.proofs.reason.Searching.{levels_start, levels_go, search_stops, search_ends}
-use Rattle.reason_search.specs.Search.{Kept}
 use Rattle.reason_search.proofs.WordMoves.{word_moves}
 use Rattle.reason_search.proofs.Opening.{level_none, level_two}
 
@@ -34,24 +30,10 @@ level_more set n s ws i j d at rest e =
     ∙ chosen_level_go set n (sign_at s) i ws j d at
     ∙ ap (level i (arcs n (sign_at s) (chosen set (drop (j + 1) ws)))) (sym (e ∙ word_moves (level i) (level_none i) (level_two i) set n s (get_or ws j 0) d))
 
--- The flag of the loop, p before a word that answers r, and q after it.
-pub flag_set : {q : Bool} {a c : List ℕ} → q ≡ true → Kept q a c
-flag_set t f = contradiction (sym f ∙ t)
-
-pub flag_kept : {p q r : Bool} {a b c : List ℕ} → r ≡ false → q ≡ p → Kept p a b → Kept r b c → Kept q a c
-flag_kept f e k l g = l f ∙ k (sym e ∙ g)
-
 -- Asked for an "is not", a path ends in the second part.
 pub goal_second : (n sign y : ℕ) → (sign ≡ 0 → ⊥) → n + y ≡ goal n (sign_at sign) y
 goal_second n zero y h = absurd (h refl)
 goal_second n (suc s) y h = refl
-
--- Places that are all filled hold nothing of what they held.
-pub places_filled : (end i : ℕ) (d : List ℕ) {b : List ℕ} → i ≤ length d → length d ≤ i → b ≡ replicate i never ++ drop i d → set b end 0 ≡ set (replicate (length d) never) end 0
-places_filled end i d {b} h g e =
-    let q : i ≡ length d = omega arith in
-    let f : b ≡ replicate (length d) never = e ∙ rw (q, drop-length d) (append-nil (replicate (length d) never)) in
-    rw f refl
 
 module _ (n sign : ℕ) (ws : List ℕ) (net : Net 0 n ws) (y : ℕ) (node : y < n) where
   abbrev after : ℕ → List ℕ

@@ -10,7 +10,8 @@ ghost use Rattle.reason_search.specs.Search.{Kept};
 
 use net_word::{head_of, is_chosen, plain_of, tail_of};
 
-// The place of a state that has no distance.
+// The place of a state that has no distance. A number and no `Option`: the places are the 16 bits of the caller's scratch, and `distances` says what
+// each of them holds.
 pub const NEVER: u16 = 65535;
 
 // Two places as one number.
@@ -87,12 +88,8 @@ fn run_level(i: u16, n: usize, sign: u32, words: &[u32], set: u32, places: &mut 
     ensures kept { Kept result places.old places.new }
 {
     let mut opened = false;
-    let mut j = 0;
-    while j < words.len() {
-        if open_word(i, n, sign, set, words[j], places) {
-            opened = true;
-        }
-        j += 1;
+    for &word in words {
+        opened |= open_word(i, n, sign, set, word, places);
     }
     opened
 }
@@ -102,11 +99,7 @@ fn start_at(end: usize, places: &mut [u16])
     requires { end < length places.old }
     ensures { places.new ≡ set (replicate (length places.old) never) end 0 }
 {
-    let mut at = 0;
-    while at < places.len() {
-        places[at] = NEVER;
-        at += 1;
-    }
+    places.fill(NEVER);
     places[end] = 0;
 }
 
@@ -130,11 +123,9 @@ pub fn find_distances(n: usize, sign: u32, words: &[u32], set: u32, y: usize, pl
 {
     let end = goal_of(n, sign, y);
     start_at(end, places);
-    let mut i = 0;
-    while i < places.len() {
+    for i in 0..places.len() {
         if !run_level(i as u16, n, sign, words, set, places) {
             return;
         }
-        i += 1;
     }
 }

@@ -73,7 +73,8 @@ fn best_of_word(
     better_of(set, word, from, n + tail, places, state, i, there)
 }
 
-// The smallest state at distance `i` that a move of a chosen word leads to from `state`, or 2N where there is none.
+// The smallest state at distance `i` that a move of a chosen word leads to from `state`, or 2N where there is none. An `Option` is no plainer:
+// 2N is above every state, so the first word is compared as all others are.
 fn next_state(
     n: usize,
     sign: u32,
@@ -88,10 +89,8 @@ fn next_state(
     ensures { result ≡ next (arcs n (sign_at sign) (chosen set words.now)) places.now state i (n + n) }
 {
     let mut best = n + n;
-    let mut j = 0;
-    while j < words.len() {
-        best = best_of_word(n, sign, set, words[j], places, state, i, best);
-        j += 1;
+    for &word in words {
+        best = best_of_word(n, sign, set, word, places, state, i, best);
     }
     best
 }
@@ -107,14 +106,11 @@ fn node_of(n: usize, state: usize) -> u16
     (state - n) as u16
 }
 
-// 1 for a state of the first part, 0 for one of the second.
+// 1 for a state of the first part, 0 for one of the second: what it adds to their count.
 fn first_part(n: usize, state: usize) -> usize
     ensures { result ≡ first_part n state }
 {
-    if state < n {
-        return 1;
-    }
-    0
+    usize::from(state < n)
 }
 
 // The nodes after `x` on the way that the places lead, into the front of the list; how many of them stand in the first part.
@@ -135,16 +131,13 @@ pub fn write_nodes(
     ensures value { result ≡ firsts n (states_from n (sign_at sign) (chosen set words.now) x places.now) }
     ensures list_after { list.new ≡ map (node_of n) (states_from n (sign_at sign) (chosen set words.now) x places.now) ++ drop (get_or places.now x never) list.old }
 {
+    let far = places[x];
     let mut state = x;
-    let mut left = places[x];
     let mut count = 0;
-    let mut at = 0;
-    while 0 < left {
-        left -= 1;
-        state = next_state(n, sign, words, set, places, state, left);
+    for at in 0..far {
+        state = next_state(n, sign, words, set, places, state, far - (at + 1));
         count += first_part(n, state);
-        list[at] = node_of(n, state);
-        at += 1;
+        list[at as usize] = node_of(n, state);
     }
     count
 }

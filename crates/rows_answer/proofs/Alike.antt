@@ -1,4 +1,6 @@
 -- Over the rows that a completion by rows left for a net and a set, the question of rows answers what the marker engine's question does.
+use Rattle.completion.specs.declared.CompletionError.TheVariants.{Refused}
+use Rattle.std.specs.Prelude.{Err, Ok}
 use Prim.Native.Nat.{ℕ, ◌+◌, ◌≤◌, ◌<◌}
 use mathlib.Core.Path.{◌≡◌, refl, sym, ap, ◌∙◌}
 use mathlib.Core.Bool.{Bool, true, false, cond}
@@ -22,18 +24,15 @@ use Rattle.net.proofs.Good.{good_pair}
 use Rattle.net.proofs.OnNet.{gone_on}
 use Rattle.net.proofs.NetCheck.{net_is_checked}
 use Rattle.question.specs.Table.{QuestionOutcome, answer_at, question_outcome, question_clauses, question_done, questioned}
-use Rattle.question.specs.declared.Asked.{Asked}
-use Rattle.question.specs.declared.Asked.TheVariants as asked
-use Rattle.completion.specs.declared.Completed.TheVariants.{Refused}
+use Rattle.question.specs.Table.{Asked}
 use Rattle.rows_completion.specs.Table.{RowsOutcome, rows_outcome, rows_clauses, rows_done, completed_by_rows}
 use Rattle.rows_answer.specs.Table.{answer_in_rows, answered_in_rows}
-use Rattle.rows_answer.specs.declared.Answered.{Answered}
-use Rattle.rows_answer.specs.declared.Answered.TheVariants as answered
+use Rattle.rows_answer.specs.Table.{Answered}
 
 -- The answer to a question without the count of its rounds.
 abbrev pub without_count : Asked → Answered
-without_count (asked.Done a count) = answered.Done a
-without_count (asked.Refused r) = answered.Refused r
+without_count (Ok (a, count)) = Ok a
+without_count (Err r) = Err r
 
 module _ (o k : ℕ) (ws : List ℕ) (set : ℕ) (net : NetFrom o k ws) (choice : set ≤ set_limit) where
   abbrev plain : List ℕ
@@ -53,7 +52,7 @@ module _ (o k : ℕ) (ws : List ℕ) (set : ℕ) (net : NetFrom o k ws) (choice 
 
     checked : call (rows_clauses o k plain yeses noes l (o + k)) (rows_done o k plain yeses noes l (o + k)) ≡ left
     checked =
-        gone_on (λ r. rows_outcome (Refused r) yeses noes l) o k ws set (rows_clauses o k plain yeses noes l) (rows_done o k plain yeses noes l)
+        gone_on (λ r. rows_outcome (Err (Refused r)) yeses noes l) o k ws set (rows_clauses o k plain yeses noes l) (rows_done o k plain yeses noes l)
         (net_is_checked o k ws set choice net) refl
 
     filled : (f : RowsOutcome → List ℕ) {a : List ℕ}
@@ -74,7 +73,7 @@ module _ (o k : ℕ) (ws : List ℕ) (set : ℕ) (net : NetFrom o k ws) (choice 
     module _ (m : List ℕ) (marks : o + k ≤ length m) (x y : ℕ) where
       asked_net : call (question_clauses o x y m (o + k)) (question_done plain x y m (o + k)) ≡ questioned o k ws set x y m
       asked_net =
-          gone_on (λ r. question_outcome (asked.Refused r) m) o k ws set (question_clauses o x y m) (question_done plain x y m) (net_is_checked o k ws set choice net) refl
+          gone_on (λ r. question_outcome (Err r) m) o k ws set (question_clauses o x y m) (question_done plain x y m) (net_is_checked o k ws set choice net) refl
 
       long : (s : Sign) (b : List ℕ) → rows_size (o + k) ≤ length b → rows_size (o + k) ≤ length (over (supported_rows o k plain s) b)
       long s b h = let e = supported_rows_length o k plain s in omega (arith, length_over (supported_rows o k plain s) b (omega arith))
@@ -99,7 +98,7 @@ module _ (o k : ℕ) (ws : List ℕ) (set : ℕ) (net : NetFrom o k ws) (choice 
             le-ltb (length (over (supported_rows o k plain isnt) noes)) (rows_size (o + k)) (long isnt noes no_room),
             le-ltb (length m) (o + k) marks,
           )
-          (ap answered.Done (good pair.node (record { low = pair.low; high = pair.high })))
+          (ap Ok (good pair.node (record { low = pair.low; high = pair.high })))
 
       -- The answer in the rows is the question's: number and answer, for every x and y.
       pub answers_alike : answered_in_rows o k left.yeses left.noes x y ≡ without_count (questioned o k ws set x y m).answer

@@ -8,13 +8,6 @@ use net::{NODE_LIMIT, Refusal, is_bad_pair};
 use question::Answer;
 use rows_word::has_bit;
 
-// What a question of rows answers: one of the question's four answers, or a refusal.
-#[derive(Drop)]
-pub enum Answered {
-    Done(Answer),
-    Refused(Refusal),
-}
-
 // What a yes bit and a no bit answer.
 fn answer_of_bits(some: bool, more: bool) -> Answer
     ensures { result ≡ answer_of_bits some more }
@@ -32,27 +25,34 @@ fn answer_of_bits(some: bool, more: bool) -> Answer
 }
 
 // The question whether `x` is `y`, asked of the rows of a net of `o` objects and `k` kinds.
-pub fn answer_in_rows(o: u32, k: u32, yeses: &[u64], noes: &[u64], x: u32, y: u32) -> Answered
+pub fn answer_in_rows(
+    o: u32,
+    k: u32,
+    yeses: &[u64],
+    noes: &[u64],
+    x: u32,
+    y: u32,
+) -> Result<Answer, Refusal>
     ensures { result ≡ answered_in_rows o k yeses.now noes.now x y }
 {
     let n = o as usize + k as usize;
     if NODE_LIMIT < n {
-        return Answered::Refused(Refusal::TooManyNodes);
+        return Err(Refusal::TooManyNodes);
     }
     if is_bad_pair(o, n, x, y) {
-        return Answered::Refused(Refusal::BadQuestion);
+        return Err(Refusal::BadQuestion);
     }
     let w = (n + 63) / 64;
     let size = n * w;
     if yeses.len() < size {
-        return Answered::Refused(Refusal::ShortBuffer);
+        return Err(Refusal::ShortBuffer);
     }
     if noes.len() < size {
-        return Answered::Refused(Refusal::ShortBuffer);
+        return Err(Refusal::ShortBuffer);
     }
     let a = x as usize * w;
     let kind = y as usize;
     let some = has_bit(a, kind, yeses);
     let more = has_bit(a, kind, noes);
-    Answered::Done(answer_of_bits(some, more))
+    Ok(answer_of_bits(some, more))
 }

@@ -1,4 +1,6 @@
 -- The completion by rows answers and lists what the marker engine's completion does, for every call.
+use Rattle.completion.specs.declared.CompletionError.TheVariants.{Refused}
+use Rattle.std.specs.Prelude.{Err}
 use Prim.Native.Nat.{ℕ, ◌+◌, ◌≤◌}
 use mathlib.Core.Path.{◌≡◌, refl}
 use mathlib.Core.Bool.{Bool, true, false, cond}
@@ -16,7 +18,6 @@ use Rattle.net.specs.Clauses.{call}
 use Rattle.net.specs.Table.{illegal_at}
 use Rattle.net.specs.declared.Refusal.{Refusal}
 use Rattle.net.specs.declared.Refusal.TheVariants.{TooManyNodes, TooManyWords, BadSet}
-use Rattle.completion.specs.declared.Completed.TheVariants.{Refused}
 use Rattle.completion.specs.Table.{CompletionOutcome, completion_outcome, completion_clauses, completion_done, completed_by}
 use Rattle.rows_completion.specs.Table.{RowsOutcome, rows_outcome, rows_clauses, rows_done, completed_by_rows}
 
@@ -40,7 +41,7 @@ module _ (o k : ℕ) (ws : List ℕ) (set : ℕ) (m yeses noes l : List ℕ)
       rw (le-ltb (length m) (o + k) marks, le-ltb (length yeses) (rows_size (o + k)) yes_room, le-ltb (length noes) (rows_size (o + k)) no_room)
       (either (ltb (length l) (length all)) (record { answer = refl; list = refl }) (record { answer = refl; list = refl }))
 
-  refused : (r : Refusal) → Alike (rows_outcome (Refused r) yeses noes l) (completion_outcome (Refused r) m l)
+  refused : (r : Refusal) → Alike (rows_outcome (Err (Refused r)) yeses noes l) (completion_outcome (Err (Refused r)) m l)
   refused r = record { answer = refl; list = refl }
 
   abbrev first : ℕ

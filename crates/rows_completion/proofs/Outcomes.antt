@@ -1,4 +1,6 @@
 -- Each outcome of a completion by rows, in the terms of the code.
+use Rattle.completion.specs.declared.CompletionError.TheVariants as completed
+use Rattle.std.specs.Prelude.{Err, Ok}
 use Prim.Native.Nat.{ℕ, ◌+◌, ◌<◌, ◌≤◌}
 use mathlib.Core.Path.{◌≡◌, refl, sym, ap, ◌∙◌}
 use mathlib.Core.List.{List, ◌++◌}
@@ -17,8 +19,7 @@ use Rattle.rows_steps.specs.Listing.{all_pairs}
 use Rattle.rows_steps.proofs.Listing.{listed}
 use Rattle.net.specs.Clauses.{call}
 use Rattle.net.specs.declared.Refusal.TheVariants.{ShortBuffer}
-use Rattle.completion.specs.declared.Completed.{Completed}
-use Rattle.completion.specs.declared.Completed.TheVariants as completed
+use Rattle.completion.specs.Table.{Completed}
 use Rattle.rows_completion.specs.Table.{RowsOutcome, rows_outcome, rows_clauses, rows_done}
 
 same : {r q : Completed} {a b c d e f : List ℕ} → r ≡ q → a ≡ b → c ≡ d → e ≡ f → rows_outcome r a c e ≡ rows_outcome q b d f
@@ -30,10 +31,10 @@ module _ (o k n : ℕ) (ws yeses noes l : List ℕ) where
   said = call (rows_clauses o k ws yeses noes l n) (rows_done o k ws yeses noes l n)
 
   -- Number 5.
-  pub yes_short : length yeses < rows_size n → rows_outcome (completed.Refused ShortBuffer) yeses noes l ≡ said
+  pub yes_short : length yeses < rows_size n → rows_outcome (Err (completed.Refused ShortBuffer)) yeses noes l ≡ said
   yes_short h = rw (lt-ltb (length yeses) (rows_size n) h)
 
-  pub no_short : length noes < rows_size n → rows_outcome (completed.Refused ShortBuffer) yeses noes l ≡ said
+  pub no_short : length noes < rows_size n → rows_outcome (Err (completed.Refused ShortBuffer)) yeses noes l ≡ said
   no_short h = rw (lt-ltb (length noes) (rows_size n) h, or_true (ltb (length yeses) (rows_size n)))
 
   -- The code filled the rows, and was left with ys and ns.
@@ -54,15 +55,15 @@ module _ (o k n : ℕ) (ws yeses noes l : List ℕ) where
       count = c ∙ ap length from_rows
 
       -- Number 8.
-      pub list_short : length l < needed → rows_outcome (completed.Short needed) ys ns l ≡ said
+      pub list_short : length l < needed → rows_outcome (Err (completed.Short needed)) ys ns l ≡ said
       list_short f =
           let g : length l < length (complete o k ws) = omega (arith, count) in
           rw (le-ltb (length yeses) (rows_size n) enough, le-ltb (length noes) (rows_size n) enough', lt-ltb (length l) (length (complete o k ws)) g)
-          (same (ap completed.Short count) (filled is ys yeses y) (filled isnt ns noes z) refl)
+          (same (ap (λ (q : ℕ). Err (completed.Short q)) count) (filled is ys yeses y) (filled isnt ns noes z) refl)
 
       -- Number 0.
-      pub list_done : needed ≤ length l → {l' : List ℕ} → l' ≡ over (all_pairs (width n) 0 n ys ns) l → rows_outcome (completed.Done needed) ys ns l' ≡ said
+      pub list_done : needed ≤ length l → {l' : List ℕ} → l' ≡ over (all_pairs (width n) 0 n ys ns) l → rows_outcome (Ok needed) ys ns l' ≡ said
       list_done f v =
           let g : length (complete o k ws) ≤ length l = omega (arith, count) in
           rw (le-ltb (length yeses) (rows_size n) enough, le-ltb (length noes) (rows_size n) enough', le-ltb (length l) (length (complete o k ws)) g)
-          (same (ap completed.Done count) (filled is ys yeses y) (filled isnt ns noes z) (v ∙ ap (λ (q : List ℕ). over q l) from_rows))
+          (same (ap Ok count) (filled is ys yeses y) (filled isnt ns noes z) (v ∙ ap (λ (q : List ℕ). over q l) from_rows))

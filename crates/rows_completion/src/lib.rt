@@ -6,8 +6,8 @@ ghost use Rattle.theory.specs.Origins.{chosen, NetFrom};
 ghost use Rattle.net.specs.Clauses.{call};
 ghost use Rattle.rows_completion.specs.Table.{rows_outcome, rows_clauses, rows_done, completed_by_rows};
 
-use completion::Completed;
-use net::{Checked, Refusal, check_net};
+use completion::CompletionError;
+use net::{Refusal, check_net};
 use rows_filling::fill_rows;
 use rows_listing::{count_words, write_rows};
 
@@ -21,7 +21,7 @@ fn complete_checked(
     yeses: &mut [u64],
     noes: &mut [u64],
     list: &mut [u32],
-) -> Completed
+) -> Result<usize, CompletionError>
     requires net { NetFrom o k words.now }
     requires size { n ≡ o + k }
     ensures { rows_outcome result yeses.new noes.new list.new ≡ call (rows_clauses o k (chosen set words.now) yeses.old noes.old list.old n) (rows_done o k (chosen set words.now) yeses.old noes.old list.old n) }
@@ -29,21 +29,21 @@ fn complete_checked(
     let w = (n + 63) / 64;
     let size = n * w;
     if yeses.len() < size {
-        return Completed::Refused(Refusal::ShortBuffer);
+        return Err(CompletionError::Refused(Refusal::ShortBuffer));
     }
     if noes.len() < size {
-        return Completed::Refused(Refusal::ShortBuffer);
+        return Err(CompletionError::Refused(Refusal::ShortBuffer));
     }
     fill_rows(o, k, n, w, words, set, yeses, noes);
     let needed = count_words(n, w, yeses, noes);
     if list.len() < needed {
-        return Completed::Short(needed);
+        return Err(CompletionError::Short(needed));
     }
     write_rows(n, w, yeses, noes, list);
-    Completed::Done(needed)
+    Ok(needed)
 }
 
-// The completion of a net by rows: it takes no marks.
+// The completion of a net by rows, and how many words it has: it takes no marks.
 pub fn completion_by_rows(
     o: u32,
     k: u32,
@@ -52,12 +52,9 @@ pub fn completion_by_rows(
     yeses: &mut [u64],
     noes: &mut [u64],
     list: &mut [u32],
-) -> Completed
+) -> Result<usize, CompletionError>
     ensures { rows_outcome result yeses.new noes.new list.new ≡ completed_by_rows o k words.now set yeses.old noes.old list.old }
 {
-    let net = check_net(o, k, words, set);
-    match net {
-        Checked::Refused(refusal) => Completed::Refused(refusal),
-        Checked::Nodes(n) => complete_checked(o, k, n, words, set, yeses, noes, list),
-    }
+    let n = check_net(o, k, words, set)?;
+    complete_checked(o, k, n, words, set, yeses, noes, list)
 }

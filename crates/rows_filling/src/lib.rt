@@ -21,6 +21,7 @@ fn gather_word(base: usize, n: usize, w: usize, word: u64, rows: &[u64], row: &m
     ensures { row.new ≡ gather_nodes w base (members word) rows.now row.old }
 {
     let mut left = word;
+    // No `for`: a step takes the lowest bit off, and there are as many steps as bits.
     while left != 0 {
         let t = u64::trailing_zeros(left) as usize;
         let rest = left & (left - 1);
@@ -39,10 +40,8 @@ fn gather_row(a: usize, n: usize, w: usize, yeses: &[u64], rows: &[u64], row: &m
     requires { (a + w ≤ length yeses.now) × (w ≤ length row.old) × (n * w ≤ length rows.now) × (w ≤ 16) × ((q : ℕ) → q < w * 64 → bit_at yeses.now a q ≡ true → q < n) }
     ensures { row.new ≡ gather_words w a 0 w yeses.now rows.now row.old }
 {
-    let mut i = 0;
-    while i < w {
+    for i in 0..w {
         gather_word(i * 64, n, w, yeses[a + i], rows, row);
-        i += 1;
     }
 }
 
@@ -51,13 +50,11 @@ fn gather_rows(n: usize, w: usize, yeses: &[u64], rows: &mut [u64])
     requires { (n * w ≤ length yeses.now) × (n * w ≤ length rows.old) × (w ≤ 16) × ((x q : ℕ) → x < n → q < w * 64 → bit_at yeses.now (x * w) q ≡ true → q < n) }
     ensures { rows.new ≡ gather w 0 n yeses.now rows.old }
 {
-    let mut x = 0;
-    while x < n {
+    for x in 0..n {
         let a = x * w;
         let mut row = [0u64; 16];
         gather_row(a, n, w, yeses, rows, &mut row);
         join_rows(a, 0, w, &row, rows);
-        x += 1;
     }
 }
 
@@ -82,10 +79,8 @@ fn back_row(a: usize, o: usize, n: usize, w: usize, yeses: &[u64], rows: &mut [u
     if !rows_meet(a, a, w, rows, rows) {
         return;
     }
-    let mut y = o;
-    while y < n {
+    for y in o..n {
         back_bit(a, y * w, y, w, yeses, rows);
-        y += 1;
     }
 }
 
@@ -94,10 +89,8 @@ fn back_rows(o: usize, n: usize, w: usize, yeses: &[u64], rows: &mut [u64])
     requires { (o ≤ n) × (n ≤ w * 64) × (n * w ≤ length yeses.now) × (n * w ≤ length rows.old) }
     ensures { rows.new ≡ back w o (n - o) 0 n yeses.now rows.old }
 {
-    let mut x = 0;
-    while x < n {
+    for x in 0..n {
         back_row(x * w, o, n, w, yeses, rows);
-        x += 1;
     }
 }
 

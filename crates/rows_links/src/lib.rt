@@ -16,10 +16,8 @@ pub fn put_kinds(o: usize, n: usize, w: usize, rows: &mut [u64])
     requires { (o ≤ n) × (n ≤ w * 64) × (n * w ≤ length rows.old) }
     ensures { rows.new ≡ kind_bits w o (n - o) rows.old }
 {
-    let mut p = o;
-    while p < n {
+    for p in o..n {
         put_bit(p * w, p, rows);
-        p += 1;
     }
 }
 
@@ -58,10 +56,7 @@ pub fn put_links(
     ensures yeses_after { yeses.new ≡ is_links w (chosen set words.now) yeses.old }
     ensures noes_after { noes.new ≡ isnt_links o w (chosen set words.now) noes.old }
 {
-    let mut i = 0;
-    while i < words.len() {
-        let word = words[i];
-        i += 1;
+    for &word in words {
         if is_chosen(set, word) {
             let plain = plain_of(word);
             put_link(o, w, plain, yeses, noes);
@@ -84,10 +79,8 @@ fn pass_through(m: usize, n: usize, w: usize, row: &[u64], rows: &mut [u64])
     requires { (m < n) × (n ≤ w * 64) × (n * w ≤ length rows.old) × (w ≤ length row.now) }
     ensures { rows.new ≡ through w m row.now 0 n rows.old }
 {
-    let mut x = 0;
-    while x < n {
+    for x in 0..n {
         pass_on(x * w, m, w, row, rows);
-        x += 1;
     }
 }
 
@@ -96,11 +89,9 @@ pub fn close_rows(o: usize, n: usize, w: usize, rows: &mut [u64])
     requires { (o ≤ n) × (n ≤ w * 64) × (w ≤ 16) × (n * w ≤ length rows.old) }
     ensures { rows.new ≡ middles w n o (n - o) rows.old }
 {
-    let mut m = o;
-    while m < n {
+    for m in o..n {
         let mut row = [0u64; 16];
         join_rows(0, m * w, w, rows, &mut row);
         pass_through(m, n, w, &row, rows);
-        m += 1;
     }
 }

@@ -7,6 +7,8 @@ use native.Mathlib.Omega.{arith}
 use lib.ListN.{length, get_or, set, length-append}
 use lib.Bits.{bit_and, bit_or}
 use lib.Count.{ones, count_trailing_zeros}
+use Rattle.std.specs.List.{between}
+use Rattle.std.proofs.lemmas.List.Edits.{length-between, get_or-between}
 use Rattle.theory_laws.specs.Over.{over}
 use Rattle.theory_laws.proofs.Over.{put_one, put_two}
 use Rattle.theory.specs.Words.{is, isnt, word}
@@ -35,6 +37,14 @@ ones_start a w l =
     let e : w - 0 ≡ w = omega arith in
     let f : a + 0 ≡ a = omega arith in
     rw (e, f)
+
+-- The words of a row, out of the part of the list that is the row.
+module _ (a w : ℕ) (l : List ℕ) (fits : a + w ≤ length l) where
+  pub row_word : (j : ℕ) → j < length (between a (a + w) l) → (j < w) × (get_or (between a (a + w) l) j 0 ≡ get_or l (a + j) 0)
+  row_word j h = let b : j < w = omega (arith, length-between l a (a + w) fits) in (b, get_or-between l a (a + w) j 0 (omega arith))
+
+  pub row_words_end : (j : ℕ) → length (between a (a + w) l) ≤ j → w ≤ j
+  row_words_end j h = omega (arith, length-between l a (a + w) fits)
 
 module _ (w n x : ℕ) (yeses noes : List ℕ) where
   pub all_go : x < n → all_pairs w x (n - x) yeses noes ≡ row_pairs x (x * w) 0 w yeses noes ++ all_pairs w (x + 1) (n - (x + 1)) yeses noes

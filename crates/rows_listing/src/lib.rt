@@ -13,10 +13,8 @@ fn row_size(a: usize, w: usize, rows: &[u64]) -> usize
     ensures { (result ≡ ones_from a w rows.now) × (result ≤ 1024) }
 {
     let mut size = 0;
-    let mut j = 0;
-    while j < w {
-        size += u64::count_ones(rows[a + j]) as usize;
-        j += 1;
+    for &word in &rows[a..a + w] {
+        size += word.count_ones() as usize;
     }
     size
 }
@@ -27,13 +25,11 @@ pub fn count_words(n: usize, w: usize, yeses: &[u64], noes: &[u64]) -> usize
     ensures { result ≡ length (all_pairs w 0 n yeses.now noes.now) }
 {
     let mut size = 0;
-    let mut x = 0;
-    while x < n {
+    for x in 0..n {
         let a = x * w;
         let some = row_size(a, w, yeses);
         let more = row_size(a, w, noes);
         size += some + more;
-        x += 1;
     }
     size
 }
@@ -68,13 +64,14 @@ fn write_word(x: u32, base: u32, some: u64, more: u64, list: &mut [u32]) -> usiz
 {
     let mut at = 0;
     let mut left = some | more;
+    // No `for`: a step takes the lowest bit off, and there are as many steps as bits.
     while left != 0 {
-        let t = u64::trailing_zeros(left);
+        let t = left.trailing_zeros();
         let p = (some >> t) % 2 == 1;
         let q = (more >> t) % 2 == 1;
         let put = write_pair(x, base + t, p, q, &mut list[at..]);
         at += put;
-        left = left & (left - 1);
+        left &= left - 1;
     }
     at
 }
@@ -86,12 +83,10 @@ fn write_row(x: u32, a: usize, w: usize, yeses: &[u64], noes: &[u64], list: &mut
     ensures written { list.new ≡ over (row_pairs x a 0 w yeses.now noes.now) list.old }
 {
     let mut at = 0;
-    let mut i = 0;
-    while i < w {
+    for i in 0..w {
         let base = (i * 64) as u32;
         let put = write_word(x, base, yeses[a + i], noes[a + i], &mut list[at..]);
         at += put;
-        i += 1;
     }
     at
 }
@@ -102,10 +97,8 @@ pub fn write_rows(n: usize, w: usize, yeses: &[u64], noes: &[u64], list: &mut [u
     ensures { list.new ≡ over (all_pairs w 0 n yeses.now noes.now) list.old }
 {
     let mut at = 0;
-    let mut x = 0;
-    while x < n {
+    for x in 0..n {
         let put = write_row(x as u32, x * w, w, yeses, noes, &mut list[at..]);
         at += put;
-        x += 1;
     }
 }

@@ -11,11 +11,7 @@ pub fn clear_words(size: usize, rows: &mut [u64])
     requires { size ≤ length rows.old }
     ensures { rows.new ≡ blank_rows size rows.old }
 {
-    let mut i = 0;
-    while i < size {
-        rows[i] = 0;
-        i += 1;
-    }
+    rows[..size].fill(0);
 }
 
 // Bit `y` of the row at place `a` is set.
@@ -25,7 +21,7 @@ pub fn put_bit(a: usize, y: usize, rows: &mut [u64])
 {
     let i = a + y / 64;
     let bit = (y % 64) as u32;
-    rows[i] = rows[i] | 1u64 << bit;
+    rows[i] |= 1u64 << bit;
 }
 
 // Whether bit `y` of the row at place `a` is set.
@@ -42,10 +38,8 @@ pub fn join_rows(a: usize, b: usize, w: usize, others: &[u64], rows: &mut [u64])
     requires { (a + w ≤ length rows.old) × (b + w ≤ length others.now) }
     ensures { rows.new ≡ gain a b w others.now rows.old }
 {
-    let mut j = 0;
-    while j < w {
-        rows[a + j] = rows[a + j] | others[b + j];
-        j += 1;
+    for j in 0..w {
+        rows[a + j] |= others[b + j];
     }
 }
 
@@ -54,10 +48,8 @@ pub fn join_two(a: usize, b: usize, c: usize, w: usize, others: &[u64], rows: &m
     requires { (a + w ≤ length rows.old) × (b + w ≤ length others.now) × (c + w ≤ length others.now) }
     ensures { rows.new ≡ gain a c w others.now (gain a b w others.now rows.old) }
 {
-    let mut j = 0;
-    while j < w {
+    for j in 0..w {
         rows[a + j] = rows[a + j] | others[b + j] | others[c + j];
-        j += 1;
     }
 }
 
@@ -67,10 +59,8 @@ pub fn rows_meet(a: usize, b: usize, w: usize, rows: &[u64], others: &[u64]) -> 
     ensures { result ≡ meets a b w rows.now others.now }
 {
     let mut both = 0u64;
-    let mut j = 0;
-    while j < w {
-        both = both | rows[a + j] & others[b + j];
-        j += 1;
+    for j in 0..w {
+        both |= rows[a + j] & others[b + j];
     }
     both != 0
 }

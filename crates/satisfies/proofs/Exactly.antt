@@ -1,7 +1,8 @@
 -- What each answer of the test means: number 13 is given exactly for what is no table, yes and no exactly as the statement holds or not.
+use Rattle.std.specs.Prelude.{Ok, false, true}
 use Prim.Native.Nat.{ℕ, zero, suc, ◌+◌, ◌*◌, ◌≤◌, ◌<◌}
 use mathlib.Core.Path.{◌≡◌, refl, sym, ap, ◌∙◌}
-use mathlib.Core.Bool.{Bool, true, false, cond, not, ◌&&◌}
+use mathlib.Core.Bool.{Bool, true, false, not, ◌&&◌}
 use mathlib.Core.List.{List}
 use mathlib.Core.Logic.{◌↔◌}
 use native.Mathlib.Omega.{arith}
@@ -19,8 +20,7 @@ use Rattle.net.specs.Table.{bad_statement}
 use Rattle.net.specs.Good.{GoodStatement}
 use Rattle.net.proofs.Good.{good_statement}
 use Rattle.satisfies.specs.Table.{low_bytes, bad_table, tested_by, tested_reply}
-use Rattle.satisfies.specs.declared.Tested.{Tested}
-use Rattle.satisfies.specs.declared.Tested.TheVariants.{Holds, Fails}
+use Rattle.satisfies.specs.Table.{Tested}
 use Rattle.satisfies.proofs.Outcomes.{test_many, test_bad, test_table}
 
 low_decides : (t : List ℕ) (i j : ℕ) → Decides (low_bytes t i j) ((v : ℕ) → i ≤ v → v < i + j → get_or t v 0 ≤ 3)
@@ -51,11 +51,14 @@ bad_table_exactly n k t = (to, from)
     from v = rw (le-ltb (length t) (n * k) v.long, (low_decides t 0 (n * k)).1 (λ i h l. v.low i (omega arith)))
 
 -- Which of the two was answered tells which way the test went.
-held : (b : Bool) → cond b Holds Fails ≡ Holds → b ≡ true
+abbrev told : Bool → Tested
+told b = Ok b
+
+held : (b : Bool) → told b ≡ Ok true → b ≡ true
 held true e = refl
 held false e = absurd (omega (arith, ap (λ (r : Tested). (tested_reply r).first) e))
 
-failed : (b : Bool) → cond b Holds Fails ≡ Fails → b ≡ false
+failed : (b : Bool) → told b ≡ Ok false → b ≡ false
 failed true e = absurd (omega (arith, ap (λ (r : Tested). (tested_reply r).first) e))
 failed false e = refl
 
@@ -75,29 +78,29 @@ module _ (o k : ℕ) (t : List ℕ) (x y sign : ℕ) where
       other : {r : Tested} → r ≡ tested_by o k t x y sign → (tested_reply r).number ≡ 0
       other f = ap (λ (r : Tested). (tested_reply r).number) f ∙ e
 
-  answered : Testable → tested_by o k t x y sign ≡ cond (satisfies o k t x y (sign_at sign)) Holds Fails
+  answered : Testable → tested_by o k t x y sign ≡ Ok (satisfies o k t x y (sign_at sign))
   answered h = rw (le-ltb node_limit (o + k) h.0, (good_statement o (o + k) x y sign).1 h.1, (bad_table_exactly (o + k) k t).1 h.2)
 
   -- Yes exactly if the statement holds in the valuation that the table stands for.
-  pub test_holds_exactly : (tested_by o k t x y sign ≡ Holds) ↔ (Testable × HoldsIn (table_valuation o k t) x y (sign_at sign))
+  pub test_holds_exactly : (tested_by o k t x y sign ≡ Ok true) ↔ (Testable × HoldsIn (table_valuation o k t) x y (sign_at sign))
   test_holds_exactly = (to, λ h. answered h.0 ∙ rw ((satisfies_decides o k t x y (sign_at sign)).1 h.1))
     where
-      to : tested_by o k t x y sign ≡ Holds → Testable × HoldsIn (table_valuation o k t) x y (sign_at sign)
+      to : tested_by o k t x y sign ≡ Ok true → Testable × HoldsIn (table_valuation o k t) x y (sign_at sign)
       to e =
           let h = was_testable (ap (λ (r : Tested). (tested_reply r).number) e) in
           (h, (satisfies_decides o k t x y (sign_at sign)).0 (held (satisfies o k t x y (sign_at sign)) (sym (answered h) ∙ e)))
 
   -- No exactly if it does not.
-  pub test_fails_exactly : (tested_by o k t x y sign ≡ Fails) ↔ (Testable × (HoldsIn (table_valuation o k t) x y (sign_at sign) → ⊥))
+  pub test_fails_exactly : (tested_by o k t x y sign ≡ Ok false) ↔ (Testable × (HoldsIn (table_valuation o k t) x y (sign_at sign) → ⊥))
   test_fails_exactly = (to, from)
     where
-      to : tested_by o k t x y sign ≡ Fails → Testable × (HoldsIn (table_valuation o k t) x y (sign_at sign) → ⊥)
+      to : tested_by o k t x y sign ≡ Ok false → Testable × (HoldsIn (table_valuation o k t) x y (sign_at sign) → ⊥)
       to e =
           let h = was_testable (ap (λ (r : Tested). (tested_reply r).number) e) in
           let f = failed (satisfies o k t x y (sign_at sign)) (sym (answered h) ∙ e) in
           (h, λ i. contradiction (sym f ∙ (satisfies_decides o k t x y (sign_at sign)).1 i))
 
-      from : Testable × (HoldsIn (table_valuation o k t) x y (sign_at sign) → ⊥) → tested_by o k t x y sign ≡ Fails
+      from : Testable × (HoldsIn (table_valuation o k t) x y (sign_at sign) → ⊥) → tested_by o k t x y sign ≡ Ok false
       from h =
           let f : satisfies o k t x y (sign_at sign) ≡ false =
           not_so (satisfies o k t x y (sign_at sign)) (λ (e : satisfies o k t x y (sign_at sign) ≡ true). h.1 ((satisfies_decides o k t x y (sign_at sign)).0 e)) in

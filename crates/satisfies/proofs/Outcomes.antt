@@ -1,6 +1,8 @@
 -- Each outcome of the test, in the terms of the code.
+use Rattle.satisfies.specs.declared.TestError.TheVariants.{BadTable, Refused}
+use Rattle.std.specs.Prelude.{Err, Ok, false, true}
 use Prim.Native.Nat.{ℕ, zero, suc, ◌+◌, ◌-◌, ◌*◌, ◌≤◌, ◌<◌}
-use mathlib.Core.Path.{◌≡◌, refl, sym, ◌∙◌}
+use mathlib.Core.Path.{◌≡◌, ap, refl, sym, ◌∙◌}
 use mathlib.Core.Bool.{Bool, true, false, not}
 use mathlib.Core.List.{List}
 use borrow.Author.Tests.{lt-ltb, le-ltb, ltb-false}
@@ -13,7 +15,6 @@ use Rattle.theory.specs.Valuations.{truth_of, everywhere, satisfies}
 use Rattle.net.specs.Table.{bad_statement}
 use Rattle.net.specs.declared.Refusal.TheVariants.{TooManyNodes, BadQuestion}
 use Rattle.satisfies.specs.Table.{low_bytes, bad_table, tested_by}
-use Rattle.satisfies.specs.declared.Tested.TheVariants.{Holds, Fails, BadTable, Refused}
 
 -- ── the table ──
 module _ (n k : ℕ) (t : List ℕ) where
@@ -45,24 +46,21 @@ module _ (o k : ℕ) (t : List ℕ) (x y sign : ℕ) {r : Bool} where
 -- ── the numbers ──
 module _ (o k : ℕ) (t : List ℕ) (x y sign : ℕ) where
   -- Number 1.
-  pub test_many : node_limit < o + k → Refused TooManyNodes ≡ tested_by o k t x y sign
+  pub test_many : node_limit < o + k → Err (Refused TooManyNodes) ≡ tested_by o k t x y sign
   test_many h = rw (lt-ltb node_limit (o + k) h)
 
   -- What the code was told of the statement, then of the table, then of the statement in it.
   module _ (h : o + k ≤ node_limit) {bad : Bool} (told : bad ≡ bad_statement o (o + k) x y sign) where
     -- Number 4.
-    pub test_bad : bad ≡ true → Refused BadQuestion ≡ tested_by o k t x y sign
+    pub test_bad : bad ≡ true → Err (Refused BadQuestion) ≡ tested_by o k t x y sign
     test_bad b = rw (le-ltb node_limit (o + k) h, sym told ∙ b)
 
     module _ (b : bad ≡ false) {none : Bool} (read : none ≡ bad_table (o + k) k t) where
       -- Number 13.
-      pub test_table : none ≡ true → BadTable ≡ tested_by o k t x y sign
+      pub test_table : none ≡ true → Err BadTable ≡ tested_by o k t x y sign
       test_table e = rw (le-ltb node_limit (o + k) h, sym told ∙ b, sym read ∙ e)
 
       -- Number 0.
       module _ (e : none ≡ false) {r : Bool} (f : r ≡ satisfies o k t x y (sign_at sign)) where
-        pub test_holds : r ≡ true → Holds ≡ tested_by o k t x y sign
-        test_holds g = rw (le-ltb node_limit (o + k) h, sym told ∙ b, sym read ∙ e, sym f ∙ g)
-
-        pub test_fails : r ≡ false → Fails ≡ tested_by o k t x y sign
-        test_fails g = rw (le-ltb node_limit (o + k) h, sym told ∙ b, sym read ∙ e, sym f ∙ g)
+        pub test_told : Ok r ≡ tested_by o k t x y sign
+        test_told = rw (le-ltb node_limit (o + k) h, sym told ∙ b, sym read ∙ e) (ap Ok f)

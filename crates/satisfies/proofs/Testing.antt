@@ -1,13 +1,14 @@
 -- The tests of a table, in the terms of the code.
-use Prim.Native.Nat.{ℕ, zero, suc, ◌+◌, ◌-◌, ◌*◌, ◌/◌, ◌%◌, ◌^◌, ◌≤◌, ◌<◌}
-use mathlib.Core.Path.{◌≡◌, refl, sym, ap, ◌∙◌}
+use Prim.Native.Nat.{ℕ, zero, suc, ◌+◌, ◌-◌, ◌/◌, ◌%◌, ◌^◌, ◌≤◌, ◌<◌}
+use mathlib.Core.Path.{◌≡◌, refl, ap}
 use mathlib.Core.Bool.{Bool, true, false, not, ◌&&◌, ◌||◌}
 use mathlib.Core.List.{List}
 use native.Mathlib.Omega.{arith}
 use native.Mathlib.Numerals.{add-one}
-use borrow.Author.Tests.{le-leb, lt-leb}
-use lib.Dec.{eqb}
-use lib.ListN.{get_or}
+use lib.Dec.{eqb, leb}
+use lib.ListN.{length, get_or, take, drop}
+use lib.Seq.{drop-cons}
+use Rattle.std.specs.List.{list_all}
 use Rattle.theory.specs.Words.{Sign, sign_at}
 use Rattle.theory.specs.Marks.{T, F, has}
 use Rattle.theory.specs.Valuations.{byte_at, agrees, everywhere}
@@ -31,29 +32,12 @@ module _ (o k : ℕ) (t : List ℕ) (x y : ℕ) (s : Sign) (d n : ℕ) where
   unfolding everywhere
   everywhere_end l = let e : n - d ≡ 0 = omega arith in rw e
 
-pub everywhere_whole : (o k : ℕ) (t : List ℕ) (x y : ℕ) (s : Sign) (n : ℕ) → everywhere o k t x y s 0 n ≡ everywhere o k t x y s 0 (n - 0)
-everywhere_whole o k t x y s n = let e : n ≡ n - 0 = omega arith in ap (everywhere o k t x y s 0) e
-
 -- ── bytes that are values ──
-pub low_whole : (t : List ℕ) (n : ℕ) → low_bytes t 0 n ≡ low_bytes t 0 (n - 0)
-low_whole t n = let e : n ≡ n - 0 = omega arith in ap (low_bytes t 0) e
-
-module _ (t : List ℕ) (i n : ℕ) where
-  pub low_stop : i < n → 3 < get_or t i 0 → low_bytes t i (n - i) ≡ false
-  unfolding low_bytes
-  low_stop l h =
-      let e : n - i ≡ suc (n - suc i) = omega arith in
-      rw (e, lt-leb (get_or t i 0) 3 h)
-
-  pub low_go : i < n → get_or t i 0 ≤ 3 → low_bytes t i (n - i) ≡ low_bytes t (i + 1) (n - (i + 1))
-  unfolding low_bytes
-  low_go l h =
-      let e : n - i ≡ suc (n - suc i) = omega arith in
-      rw (add-one i, e, le-leb (get_or t i 0) 3 h)
-
-  pub low_end : n ≤ i → low_bytes t i (n - i) ≡ true
-  unfolding low_bytes
-  low_end l = let e : n - i ≡ 0 = omega arith in rw e
+pub low_all : (t : List ℕ) (i j : ℕ) → i + j ≤ length t → low_bytes t i j ≡ list_all (λ b. leb b 3) (take j (drop i t))
+unfolding low_bytes
+low_all t i zero h = refl
+low_all t i (suc j) h =
+    rw (drop-cons t i 0 (omega arith)) (ap (λ (r : Bool). leb (get_or t i 0) 3 && r) (low_all t (suc i) j (omega arith)))
 
 -- ── one byte, and one element ──
 pub read_T : (b : ℕ) → eqb (b % 2) 1 ≡ has T b
@@ -69,14 +53,3 @@ module _ (sign p q : ℕ) {a b c d : Bool} where
       at : (n : ℕ) → (n ≡ 0 → ⊥) → ((not (has T p) || has F q) && (not (has T q) || has F p)) ≡ agrees (sign_at n) p q
       at zero e = absurd (e refl)
       at (suc n) e = refl
-
--- The same where the bytes of element d begin at `at`, and r is what the code found there.
-module _ (o k : ℕ) (t : List ℕ) (x y : ℕ) (s : Sign) (d n at : ℕ) (e : at ≡ d * k) {r : Bool} (h : r ≡ agrees s (get_or t (at + (x - o)) 0) (get_or t (at + (y - o)) 0)) (l : d < n) where
-  found : r ≡ agrees s (byte_at o k t d x) (byte_at o k t d y)
-  found = h ∙ ap (λ (i : ℕ). agrees s (get_or t (i + (x - o)) 0) (get_or t (i + (y - o)) 0)) e
-
-  pub found_stop : r ≡ false → everywhere o k t x y s d (n - d) ≡ false
-  found_stop f = everywhere_stop o k t x y s d n l (sym found ∙ f)
-
-  pub found_go : r ≡ true → everywhere o k t x y s d (n - d) ≡ everywhere o k t x y s (d + 1) (n - (d + 1))
-  found_go f = everywhere_go o k t x y s d n l (sym found ∙ f)

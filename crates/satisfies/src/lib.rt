@@ -9,11 +9,9 @@ ghost use Rattle.satisfies.specs.Table.{low_bytes, bad_table, tested_by};
 
 use net::{NODE_LIMIT, Refusal, is_bad_statement};
 
-// What the test answers: the statement holds, or does not, or the table is none (number 13), or a refusal.
-#[derive(Drop)]
-pub enum Tested {
-    Holds,
-    Fails,
+// Why a statement was not tried: the table is none (number 13), or a refusal.
+#[derive(Clone, Copy)]
+pub enum TestError {
     BadTable,
     Refused(Refusal),
 }
@@ -56,14 +54,11 @@ fn agree_everywhere(
 {
     let left = x - o;
     let right = y - o;
-    let mut at = 0;
-    let mut d = 0;
-    while d < n {
+    for d in 0..n {
+        let at = d * k;
         if !agree(sign, table[at + left], table[at + right]) {
             return false;
         }
-        at += k;
-        d += 1;
     }
     true
 }
@@ -73,14 +68,7 @@ fn are_low(size: usize, table: &[u8]) -> bool
     requires { size ≤ length table.now }
     ensures { result ≡ low_bytes table.now 0 size }
 {
-    let mut i = 0;
-    while i < size {
-        if 3 < table[i] {
-            return false;
-        }
-        i += 1;
-    }
-    true
+    table[..size].iter().all(|byte| *byte <= 3)
 }
 
 // Whether a table is none for `n` elements and `k` kinds.
@@ -114,23 +102,27 @@ fn holds_in(o: u32, k: u32, n: usize, table: &[u8], x: u32, y: u32, sign: u32) -
     agree_everywhere(objects, kinds, n, table, subject, kind, sign)
 }
 
-// The test of a statement in a lent valuation.
-pub fn test_valuation(o: u32, k: u32, table: &[u8], x: u32, y: u32, sign: u32) -> Tested
+// The test of a statement in a lent valuation: whether it holds.
+pub fn test_valuation(
+    o: u32,
+    k: u32,
+    table: &[u8],
+    x: u32,
+    y: u32,
+    sign: u32,
+) -> Result<bool, TestError>
     ensures { result ≡ tested_by o k table.now x y sign }
 {
     let kinds = k as usize;
     let n = o as usize + kinds;
     if NODE_LIMIT < n {
-        return Tested::Refused(Refusal::TooManyNodes);
+        return Err(TestError::Refused(Refusal::TooManyNodes));
     }
     if is_bad_statement(o, n, x, y, sign) {
-        return Tested::Refused(Refusal::BadQuestion);
+        return Err(TestError::Refused(Refusal::BadQuestion));
     }
     if is_bad_table(n, kinds, table) {
-        return Tested::BadTable;
+        return Err(TestError::BadTable);
     }
-    if holds_in(o, k, n, table, x, y, sign) {
-        return Tested::Holds;
-    }
-    Tested::Fails
+    Ok(holds_in(o, k, n, table, x, y, sign))
 }

@@ -4,39 +4,54 @@
 ghost use Rattle.std.specs.Prelude.{◌≡◌, ◌≤◌};
 ghost use Rattle.theory.specs.Origins.{chosen, InsideFrom};
 ghost use Rattle.scan.specs.Table.{scan_outcome, scan_clauses, scan_done, scanned};
+ghost use Rattle.scan.specs.declared.ScanError.TheVariants.{Refused};
 ghost use Rattle.net.specs.Clauses.{call};
 
-use net::{Checked, Refusal, check_net};
+use net::{Refusal, check_net};
 use scan_rounds::run_rounds;
 use scan_start::put_start;
 
-// What a scan answers: the count of its rounds, where it ended or where its budget was spent before, or a refusal.
-#[derive(Drop)]
-pub enum Scanned {
-    Done(u32),
+// Why a scan has no result: its budget of rounds, which is told, was spent before it ended (number 6), or a refusal.
+#[derive(Clone, Copy)]
+pub enum ScanError {
     Spent(u32),
     Refused(Refusal),
 }
 
+impl From<Refusal> for ScanError {
+    ghost from_gives = { λ refusal e. e ≡ Refused refusal };
+
+    fn from(refusal: Refusal) -> ScanError {
+        ScanError::Refused(refusal)
+    }
+}
+
 // Numbers 4, 5, 6 and 0, on a net of `n` nodes that was checked.
-pub fn scan_net(n: usize, words: &[u32], set: u32, x: u32, budget: u32, marks: &mut [u8]) -> Scanned
+pub fn scan_net(
+    n: usize,
+    words: &[u32],
+    set: u32,
+    x: u32,
+    budget: u32,
+    marks: &mut [u8],
+) -> Result<u32, ScanError>
     requires inside { InsideFrom n words.now }
     requires few { n ≤ 1024 }
     ensures { scan_outcome result marks.new ≡ call (scan_clauses (chosen set words.now) x budget marks.old n) (scan_done (chosen set words.now) x budget marks.old n) }
 {
     let at = x as usize;
     if n <= at {
-        return Scanned::Refused(Refusal::BadQuestion);
+        return Err(ScanError::Refused(Refusal::BadQuestion));
     }
     if marks.len() < n {
-        return Scanned::Refused(Refusal::ShortBuffer);
+        return Err(ScanError::Refused(Refusal::ShortBuffer));
     }
     put_start(n, at, marks);
     let ran = run_rounds(n, words, set, budget, marks);
     if ran.done {
-        Scanned::Done(ran.count)
+        Ok(ran.count)
     } else {
-        Scanned::Spent(ran.count)
+        Err(ScanError::Spent(ran.count))
     }
 }
 
@@ -49,12 +64,9 @@ pub fn scan(
     start: u32,
     budget: u32,
     marks: &mut [u8],
-) -> Scanned
+) -> Result<u32, ScanError>
     ensures { scan_outcome result marks.new ≡ scanned o k words.now set start budget marks.old }
 {
-    let net = check_net(o, k, words, set);
-    match net {
-        Checked::Refused(refusal) => Scanned::Refused(refusal),
-        Checked::Nodes(n) => scan_net(n, words, set, start, budget, marks),
-    }
+    let n = check_net(o, k, words, set)?;
+    scan_net(n, words, set, start, budget, marks)
 }

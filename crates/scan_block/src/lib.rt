@@ -28,12 +28,9 @@ fn some_isnt(words: &[u32], from: usize) -> bool
     requires { from + 8 ≤ length words.now }
     ensures { result ≡ false → None 1 words.now from 8 }
 {
-    let mut any = 0;
-    let mut k = 0;
-    while k < BLOCK {
-        any = any | words[from + k];
-        k += 1;
-    }
+    let any = words[from..from + BLOCK]
+        .iter()
+        .fold(0, |any, word| any | word);
     any % 2 == 1
 }
 
@@ -42,12 +39,9 @@ fn some_is(words: &[u32], from: usize) -> bool
     requires { from + 8 ≤ length words.now }
     ensures { result ≡ false → None 0 words.now from 8 }
 {
-    let mut all = 1;
-    let mut k = 0;
-    while k < BLOCK {
-        all = all & words[from + k];
-        k += 1;
-    }
+    let all = words[from..from + BLOCK]
+        .iter()
+        .fold(1, |all, word| all & word);
     all % 2 == 0
 }
 
@@ -70,12 +64,10 @@ fn blocks_have_isnt(words: &[u32], whole: usize) -> bool
     requires { (whole % 8 ≡ 0) × (whole ≤ length words.now) }
     ensures { result ≡ false → NoIsnt whole words.now }
 {
-    let mut i = 0;
-    while i < whole {
-        if some_isnt(words, i) {
+    for block in 0..whole / BLOCK {
+        if some_isnt(words, block * BLOCK) {
             return true;
         }
-        i += BLOCK;
     }
     false
 }
@@ -85,14 +77,7 @@ fn rest_has_isnt(words: &[u32], from: usize) -> bool
     requires { from ≤ length words.now }
     ensures { result ≡ false → NoIsnt from words.now → NoIsnt (length words.now) words.now }
 {
-    let mut i = from;
-    while i < words.len() {
-        if words[i] % 2 == 1 {
-            return true;
-        }
-        i += 1;
-    }
-    false
+    words[from..].iter().any(|word| word % 2 == 1)
 }
 
 // Whether a word says "is not".
@@ -123,11 +108,9 @@ fn is_rare(sign: u32, words: &[u32]) -> bool {
     let step = (words.len() / SPREAD + 1) * BLOCK;
     let mut looked = 0usize;
     let mut without = 0usize;
-    let mut from = 0;
-    while from < whole {
+    for from in (0..whole).step_by(step) {
         without += lacks(sign, words, from);
         looked += 1;
-        from += step;
     }
     looked / 2 < without
 }
@@ -140,8 +123,8 @@ pub fn signs_of(words: &[u32]) -> Signs
     let few_is = is_rare(IS, words);
     let few_isnt = is_rare(ISNT, words);
     Signs {
-        isnts: isnts,
-        few_is: few_is,
-        few_isnt: few_isnt,
+        isnts,
+        few_is,
+        few_isnt,
     }
 }

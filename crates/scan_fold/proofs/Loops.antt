@@ -1,105 +1,55 @@
--- The two loops between passes, for every f and g: one writes f of each byte below n, the other also gathers the bits that are new.
-use Prim.Native.Nat.{ℕ, suc, ◌+◌, ◌-◌, ◌<◌, ◌≤◌}
-use mathlib.Core.Path.{◌≡◌, refl, sym, ap, ◌∙◌}
+-- What the two loops between passes leave, whatever function of bytes they apply.
+use Prim.Native.Nat.{ℕ, zero, suc, ◌+◌, ◌-◌, ◌<◌, ◌≤◌, zero-le, suc-le-suc}
+use mathlib.Core.Path.{◌≡◌, refl, sym, ap}
 use mathlib.Core.Bool.{Bool, true, false, not, ◌&&◌}
-use mathlib.Core.List.{List, ◌++◌}
+use mathlib.Core.List.{List, [], ◌∷◌}
 use native.Mathlib.Omega.{arith}
-use native.Mathlib.Nat.{not-suc-le-zero}
-use native.Mathlib.Numerals.{add-one}
+use native.Mathlib.Nat.{not-suc-le-zero, le_of_suc-le-suc, suc_inj}
 use borrow.Author.Count.{below_more}
-use lib.ListN.{length, get_or, set, take, drop, length-set, take-append-drop}
-use lib.Seq.{drop-cons, take-suc-set, drop-set-lt, drop-drop, get_or-drop, append_snoc}
+use lib.ListN.{length, get_or, set, drop}
+use lib.Seq.{get_or-set_same, get_or-set_other}
 use lib.Bits.{bit_and, bit_or}
 use Rattle.theory_laws.specs.Deciding.{Decides}
 use Rattle.theory_laws.proofs.Booleans.{neither}
 use Rattle.theory_laws.proofs.Bits.{bit_or_lem, bit_zero}
 use Rattle.theory_laws.proofs.Deciding.{decides_both, decides_same}
 use Rattle.theory.specs.Marks.{has}
-use Rattle.scan_lanes.specs.Codes.{on_nodes, is_code, new_in, NoneNew}
+use Rattle.scan_lanes.specs.Codes.{on_nodes, is_code, NoneNew}
+use Rattle.scan_fold.specs.Gained.{NoneGained}
 
--- Of the bytes m₀ those below v have been changed by f, which gave m: the others are as they were, and still to be changed.
-abbrev pub Changed : (ℕ → ℕ) → ℕ → List ℕ → List ℕ → ℕ → Type 0
-Changed f n m₀ m v =
-    (v ≤ n) × (length m ≡ length m₀) × (on_nodes f n m₀ ≡ take v m ++ on_nodes f (n - v) (drop v m)) × (drop v m ≡ drop v m₀)
-
-pub changed_none : (f : ℕ → ℕ) (n : ℕ) (m : List ℕ) → Changed f n m m 0
-changed_none f n m = (omega arith, refl, ap (λ (k : ℕ). on_nodes f k m) (omega arith), refl)
-
-module _ (f : ℕ → ℕ) (n : ℕ) (m₀ m : List ℕ) (v : ℕ) (h : Changed f n m₀ m v) where
-  -- The next byte is as it was.
-  pub next_byte : get_or m v 0 ≡ get_or m₀ v 0
-  next_byte =
-      let z : v + 0 ≡ v = omega arith in
-      let a : get_or (drop v m) 0 0 ≡ get_or m v 0 = get_or-drop v m 0 0 ∙ ap (λ (k : ℕ). get_or m k 0) z in
-      let b : get_or (drop v m₀) 0 0 ≡ get_or m₀ v 0 = get_or-drop v m₀ 0 0 ∙ ap (λ (k : ℕ). get_or m₀ k 0) z in
-      sym a ∙ ap (λ (l : List ℕ). get_or l 0 0) h.3 ∙ b
-
-  changed_next : (x : ℕ) → x ≡ f (get_or m v 0) → v < n → n ≤ length m
-      → take v m ++ on_nodes f (n - v) (drop v m) ≡ take (v + 1) (set m v x) ++ on_nodes f (n - (v + 1)) (drop (v + 1) (set m v x))
-  unfolding on_nodes
-  changed_next x e l r =
-      let k : n - v ≡ suc (n - suc v) = omega arith in
-      rw (add-one v, k, drop-cons m v 0 (omega arith), take-suc-set m v x (omega arith), drop-set-lt (suc v) m v x (omega arith), ← e)
-      (sym (append_snoc (take v m) x (on_nodes f (n - suc v) (drop (suc v) m))))
-
-  -- It is changed too.
-  pub changed_go : (x : ℕ) → x ≡ f (get_or m v 0) → v < n → n ≤ length m₀ → Changed f n m₀ (set m v x) (v + 1)
-  changed_go x e l r =
-      let same = h.1 in (
-        omega arith,
-        length-set m v x ∙ same,
-        h.2 ∙ changed_next x e l (omega arith),
-        drop-set-lt (v + 1) m v x (omega arith) ∙ sym (drop-drop 1 v m) ∙ ap (drop 1) h.3 ∙ drop-drop 1 v m₀,
-      )
-
-  -- At the end all of them are.
-  pub changed_all : n ≤ v → m ≡ on_nodes f n m₀
-  unfolding on_nodes
-  changed_all l =
-      let z : n - v ≡ 0 = omega arith in
-      let e : take v m ++ on_nodes f (n - v) (drop v m) ≡ m = rw z (take-append-drop v m) in
-      sym (h.2 ∙ e)
+-- Where f made each byte of n nodes, and the others are as they were, that is all bytes.
+pub nodes_each : (f : ℕ → ℕ) (n : ℕ) (m₀ m : List ℕ) → length m ≡ length m₀ → n ≤ length m₀ → ((v : ℕ) → v < n → get_or m v 0 ≡ f (get_or m₀ v 0))
+    → drop n m ≡ drop n m₀ → m ≡ on_nodes f n m₀
+unfolding on_nodes
+nodes_each f zero m₀ m e r h d = d
+nodes_each f (suc n) [] m e r h d = absurd (not-suc-le-zero r)
+nodes_each f (suc n) (x ∷ m₀) [] e r h d = absurd (omega arith)
+nodes_each f (suc n) (x ∷ m₀) (y ∷ m) e r h d =
+    rw (h 0 (suc-le-suc zero-le), nodes_each f n m₀ m (suc_inj e) (le_of_suc-le-suc r) (λ v l. h (suc v) (suc-le-suc l)) d)
 
 -- The test that b is false.
 decides_false : (b : Bool) → Decides (not b) (b ≡ false)
 decides_false true = (λ e. sym e, λ e. sym e)
 decides_false false = (λ e. refl, λ e. refl)
 
--- A byte whose marks g reads, written for the pass over "is".
-abbrev anew : (ℕ → ℕ) → ℕ → ℕ
-anew g e = is_code (g e)
+pub gained_none : (i : ℕ) (m₀ m : List ℕ) → NoneGained i 0 m₀ m 0
+gained_none i m₀ m = (λ e v l. absurd (not-suc-le-zero l), λ f. ap not (bit_zero i))
 
--- The bytes below v are written anew, and each bit of r speaks for what was new there.
-abbrev pub Folded : (ℕ → ℕ) → ℕ → List ℕ → List ℕ → ℕ → ℕ → Type 0
-Folded g n m₀ m r v = Changed (anew g) n m₀ m v × ((i : ℕ) → i < 8 → NoneNew g i v m₀ r)
+-- The byte at v becomes x, and what it gains joins r.
+pub gained_more : (i : ℕ) (m₀ m : List ℕ) (v x r : ℕ) → v < length m → get_or m v 0 ≡ get_or m₀ v 0 → NoneGained i v m₀ m r
+    → NoneGained i (v + 1) m₀ (set m v x) (bit_or r (bit_and x (255 - get_or m v 0)))
+gained_more i m₀ m v x r l same h =
+    let b = has i r in
+    let y = bit_and x (255 - get_or m v 0) in
+    let Old = λ (u : ℕ). has i (bit_and (get_or (set m v x) u 0) (255 - get_or m₀ u 0)) ≡ false in
+    let here : bit_and (get_or (set m v x) v 0) (255 - get_or m₀ v 0) ≡ y = rw (get_or-set_same m v x 0 l, same) in
+    let there : (u : ℕ) → u < v → get_or (set m v x) u 0 ≡ get_or m u 0 = λ u k. get_or-set_other m v u x 0 (λ (e : u ≡ v). omega arith) in
+    rw (bit_or_lem i r y, neither b (has i y))
+    (decides_same (not b && not (has i y)) (decides_both (not b) (not (has i y)) h (decides_false (has i y)))
+    (λ p. below_more Old v (λ u k. rw (there u k) (p.0 u k)) (rw here p.1))
+    (λ f. (λ u k. rw (there u k) at (f u (omega arith)), rw here at (f v (omega arith)))))
 
-pub folded_none : (g : ℕ → ℕ) (n : ℕ) (m : List ℕ) → Folded g n m m 0 0
-folded_none g n m = (changed_none (anew g) n m, λ i l. (λ e v h. absurd (not-suc-le-zero h), λ f. ap not (bit_zero i)))
-
-module _ (g : ℕ → ℕ) (n : ℕ) (m₀ m : List ℕ) (r v : ℕ) (h : Folded g n m₀ m r v) where
-  -- Bit i is not new at node u.
-  abbrev Old : ℕ → ℕ → Type 0
-  Old i u = has i (new_in g (get_or m₀ u 0)) ≡ false
-
-  new_next : (y : ℕ) → y ≡ new_in g (get_or m₀ v 0) → (i : ℕ) → i < 8 → NoneNew g i (v + 1) m₀ (bit_or r y)
-  new_next y e i l =
-      let b = has i r in
-      let o = has i (new_in g (get_or m₀ v 0)) in
-      rw (bit_or_lem i r y, e, neither b o)
-      (decides_same
-      (not b && not o)
-      (decides_both (not b) (not o) (h.1 i l) (decides_false o))
-      (λ p. below_more (Old i) v p.0 p.1)
-      (λ f. (λ u k. f u (omega arith), f v (omega arith))))
-
-  pub folded_go : (x y : ℕ) → x ≡ is_code (g (get_or m v 0)) → y ≡ bit_and x (255 - get_or m v 0) → v < n → n ≤ length m₀
-      → Folded g n m₀ (set m v x) (bit_or r y) (v + 1)
-  folded_go x y e k l s =
-      let new : y ≡ new_in g (get_or m₀ v 0) = k ∙ ap (λ (x : ℕ). bit_and x (255 - get_or m v 0)) e ∙ ap (new_in g) (next_byte (anew g) n m₀ m v h.0) in
-      (changed_go (anew g) n m₀ m v h.0 x e l s, new_next y new)
-
-  pub folded_all : n ≤ v → (m ≡ on_nodes (anew g) n m₀) × ((i : ℕ) → i < 8 → NoneNew g i n m₀ r)
-  folded_all l =
-      let b : v ≤ n = h.0.0 in
-      let e : n ≡ v = omega arith in
-      (changed_all (anew g) n m₀ m v h.0 l, rw e h.1)
+-- Where bytes, whose marks g reads, are written anew for the pass over "is", what they gain is what is new.
+pub gained_new : (g : ℕ → ℕ) (i n r : ℕ) (m₀ m : List ℕ) → ((v : ℕ) → v < n → get_or m v 0 ≡ is_code (g (get_or m₀ v 0))) → NoneGained i n m₀ m r
+    → NoneNew g i n m₀ r
+gained_new g i n r m₀ m e h = decides_same (not (has i r)) h (λ f v l. rw (e v l) at (f v l)) (λ f v l. rw (e v l) (f v l))

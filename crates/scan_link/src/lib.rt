@@ -46,21 +46,27 @@ pub fn table_of(set: u32, sign: u32) -> [u8; 8]
     ensures { Table set sign result }
 {
     let mut table = [0u8; 8];
-    let mut i = 0;
-    while i < 8 {
+    for i in 0..8 {
         table[i] = lanes_for(set, sign, word_in(i));
-        i += 1;
     }
     table
 }
 
+// The lanes that the words of a pass may open, class by class: where a set of origins chooses them and they have the sign.
+#[derive(Clone, Copy)]
+pub struct Lanes {
+    pub set: u32,
+    pub sign: u32,
+    pub table: [u8; 8],
+    ghost right: { Table set sign table },
+}
+
 // The lanes that a word may open, by its class.
-pub fn lanes_of(set: u32, sign: u32, table: &[u8; 8], word: u32) -> u8
-    requires table { Table set sign table.now }
-    requires origin { origin_of word ≤ origin_limit }
-    ensures { result ≡ lanes_for set sign word }
+pub fn lanes_of(lanes: &Lanes, word: u32) -> u8
+    requires { origin_of word ≤ origin_limit }
+    ensures { result ≡ lanes_for lanes.now.set lanes.now.sign word }
 {
-    table[class_of(word)]
+    lanes.table[class_of(word)]
 }
 
 // Whether no lane is open along a word, whatever its class: then it does nothing in any pass. Only a `true` is relied on.
@@ -77,16 +83,15 @@ pub fn is_closed(n: usize, word: u32, marks: &[u8]) -> bool
 
 // One word. A lane is open where its bit stands in the upper half at the tail and in the lower half at the head; its mark is put by striking one of the two out. What tests
 // for a mark stays as it was when the pass began, so that marks put in the pass are not tested in it.
-pub fn follow(set: u32, sign: u32, table: &[u8; 8], n: usize, word: u32, marks: &mut [u8])
-    requires table { Table set sign table.now }
+pub fn follow(lanes: &Lanes, n: usize, word: u32, marks: &mut [u8])
     requires ends { EndsFrom n word }
     requires room { n ≤ length marks.old }
-    ensures { marks.new ≡ lane_from set sign word marks.old }
+    ensures { marks.new ≡ lane_from lanes.now.set lanes.now.sign word marks.old }
 {
     let plain = plain_of(word);
     let tail = tail_of(plain);
     let head = head_of(plain);
-    let open = marks[tail] / 16 & marks[head] & lanes_of(set, sign, table, word);
+    let open = marks[tail] / 16 & marks[head] & lanes_of(lanes, word);
     if open != 0 {
         marks[tail] = marks[tail] & (255 - open % 4 * 16);
         marks[head] = marks[head] & (255 - open / 4 * 4);

@@ -10,11 +10,7 @@ pub fn clear(n: usize, marks: &mut [u8])
     requires { n ≤ length marks.old }
     ensures { marks.new ≡ cleared n marks.old }
 {
-    let mut i = 0;
-    while i < n {
-        marks[i] = 0;
-        i += 1;
-    }
+    marks[..n].fill(0);
 }
 
 // The marks at the start: T and U on `x`, and no other.

@@ -1,265 +1,239 @@
 // The table of supported statements: a cell for each pair of nodes, closed under rules (3.1) to (3.5) by passes over all cells.
 // In the cell of (x, y), bit 0 says that x → y is supported, and bit 1 that x ↛ y is.
-ghost use Rattle.std.specs.Prelude.{◌<◌, ◌≤◌};
+ghost use Rattle.std.specs.Prelude.{◌<◌};
 
-use crate::check::{is_chosen, plain};
-use crate::places::{add_bits, byte_at, narrow, node, put_word};
+use crate::net::{Net, Nodes, Sign, Statement};
+use crate::places::{Filling, add_bits, item_at, narrow};
+use crate::reply::{Refusal, Reply, given};
 
-// The cell of (x, y) in rows of 1,024 cells: half of the word that says x → y.
-pub fn cell(x: usize, y: usize) -> usize
+// The bits of a cell.
+pub const IS: u8 = 1;
+
+pub const IS_NOT: u8 = 2;
+
+// The bit of a sign.
+pub fn bit_of(sign: Sign) -> u8 {
+    match sign {
+        Sign::Is => IS,
+        Sign::IsNot => IS_NOT,
+    }
+}
+
+// The place of (x, y) in rows of 1,024 cells.
+fn cell(x: usize, y: usize) -> usize
     ensures { result < 1048576 }
 {
     x % 1024 * 1024 + y % 1024
 }
 
-// Whether x → y is in the table.
-fn is_yes(support: &[u8], x: usize, y: usize) -> bool {
-    byte_at(support, cell(x, y)) % 2 == 1
+// Room for a table, which is lent, so that it is moved nowhere.
+pub const CELLS: usize = 1048576;
+
+pub type Room = [u8; CELLS];
+
+// A byte for each node and each kind.
+#[derive(Drop)]
+pub struct Table<'a> {
+    nodes: Nodes,
+    cells: &'a mut [u8],
 }
 
-// Whether x ↛ y is in the table.
-fn is_no(support: &[u8], x: usize, y: usize) -> bool {
-    byte_at(support, cell(x, y)) >= 2
-}
-
-// 0 none, 1 yes, 2 no, 3 both.
-pub fn answer_byte(support: &[u8; 1048576], x: usize, y: usize) -> u8 {
-    byte_at(support, cell(x, y))
-}
-
-// The same as a value of a reply.
-pub fn answer(support: &[u8; 1048576], x: usize, y: usize) -> u32 {
-    answer_byte(support, x, y) as u32
-}
-
-// The bit of a word's sign.
-fn sign_bit(word: u32) -> u8 {
-    if word % 2 == 0 { 1 } else { 2 }
-}
-
-// One link, if it is chosen: half of the plain word is the cell of its ends.
-fn add_link(set: u32, word: u32, support: &mut [u8]) {
-    if is_chosen(set, word) {
-        add_bits(support, node(plain(word) / 2), sign_bit(word));
+impl<'a> Table<'a> {
+    // A table of zeros, in room that is all zeros.
+    pub fn over(nodes: Nodes, room: &'a mut Room) -> Table<'a> {
+        Table { nodes, cells: room }
     }
-}
 
-// The chosen links.
-fn add_links(words: &[u32], set: u32, support: &mut [u8]) {
-    let mut i = 0;
-    while i < words.len() {
-        add_link(set, words[i], support);
-        i += 1;
+    // The table of what a net supports, in room that is all zeros.
+    pub fn of(net: Net, room: &'a mut Room) -> Table<'a> {
+        let mut table = Table::over(net.nodes, room);
+        table.close(net);
+        table
     }
-}
 
-// (3.1): every kind is itself.
-fn add_identities(o: usize, n: usize, support: &mut [u8]) {
-    let mut p = o;
-    while p < n {
-        add_bits(support, cell(p, p), 1);
-        p += 1;
+    // The byte of (x, y): of supported statements 0 none, 1 yes, 2 no, 3 both.
+    pub fn at(&self, x: usize, y: usize) -> u8 {
+        item_at(self.cells, cell(x, y), 0)
     }
-}
 
-// (3.2) and (3.4) for x and q: where x → q, x is and is not whatever q is and is not.
-fn add_row(o: usize, n: usize, support: &mut [u8], x: usize, q: usize) -> bool {
-    if x == q || !is_yes(support, x, q) {
-        return false;
+    // Adds bits to it; true when it changed.
+    pub fn add(&mut self, x: usize, y: usize, bits: u8) -> bool {
+        add_bits(self.cells, cell(x, y), bits)
     }
-    let mut changed = false;
-    let mut r = o;
-    while r < n {
-        let bits = byte_at(support, cell(q, r));
-        changed = changed | add_bits(support, cell(x, r), bits);
-        r += 1;
+
+    // Whether the byte of (x, y) has a bit.
+    pub fn has(&self, x: usize, y: usize, bit: u8) -> bool {
+        self.at(x, y) & bit != 0
     }
-    changed
-}
 
-// (3.2) and (3.4) through one kind q.
-fn chain_through(o: usize, n: usize, support: &mut [u8], q: usize) -> bool {
-    let mut changed = false;
-    let mut x = 0;
-    while x < n {
-        changed = changed | add_row(o, n, support, x, q);
-        x += 1;
+    // The byte of (x, y) as a value of a reply.
+    pub fn answer(&self, x: u32, y: u32) -> u32 {
+        self.at(x as usize, y as usize) as u32
     }
-    changed
-}
 
-// (3.2) and (3.4) through each kind in turn.
-fn chain(o: usize, n: usize, support: &mut [u8]) -> bool {
-    let mut changed = false;
-    let mut q = o;
-    while q < n {
-        changed = changed | chain_through(o, n, support, q);
-        q += 1;
+    // Whether it has a statement.
+    pub fn says(&self, said: Statement) -> bool {
+        self.has(said.x as usize, said.y as usize, bit_of(said.sign))
     }
-    changed
-}
 
-// The bit of "is not" where it holds, else nothing.
-fn no_where(holds: bool) -> u8 {
-    if holds { 2 } else { 0 }
-}
-
-// (3.3) for one kind p: each q that p is not, is not p.
-fn turn_row(o: usize, n: usize, support: &mut [u8], p: usize) -> bool {
-    let mut changed = false;
-    let mut q = o;
-    while q < n {
-        let no = no_where(is_no(support, p, q));
-        changed = changed | add_bits(support, cell(q, p), no);
-        q += 1;
+    // Whether no byte is above 3.
+    pub fn is_of_answers(&self) -> bool {
+        let (o, n) = self.kinds();
+        (0..n).all(|x| (o..n).all(|y| self.at(x, y) <= 3))
     }
-    changed
-}
 
-// (3.3) for each kind.
-fn turn(o: usize, n: usize, support: &mut [u8]) -> bool {
-    let mut changed = false;
-    let mut p = o;
-    while p < n {
-        changed = changed | turn_row(o, n, support, p);
-        p += 1;
+    // Adds a statement.
+    pub fn put(&mut self, said: Statement) {
+        self.add(said.x as usize, said.y as usize, bit_of(said.sign));
     }
-    changed
-}
 
-// (3.5) for a and q: where a ↛ q, the object is none of the kinds that are q.
-fn deny_below(o: usize, n: usize, support: &mut [u8], a: usize, q: usize) -> bool {
-    if !is_no(support, a, q) {
-        return false;
+    // The first kind, and the number of nodes.
+    fn kinds(&self) -> (usize, usize) {
+        (self.nodes.first_kind(), self.nodes.count())
     }
-    let mut changed = false;
-    let mut p = o;
-    while p < n {
-        let no = no_where(is_yes(support, p, q));
-        changed = changed | add_bits(support, cell(a, p), no);
-        p += 1;
-    }
-    changed
-}
 
-// (3.5) for one object.
-fn deny_row(o: usize, n: usize, support: &mut [u8], a: usize) -> bool {
-    let mut changed = false;
-    let mut q = o;
-    while q < n {
-        changed = changed | deny_below(o, n, support, a, q);
-        q += 1;
-    }
-    changed
-}
-
-// (3.5) for each object.
-fn deny(o: usize, n: usize, support: &mut [u8]) -> bool {
-    let mut changed = false;
-    let mut a = 0;
-    while a < o {
-        changed = changed | deny_row(o, n, support, a);
-        a += 1;
-    }
-    changed
-}
-
-// One pass of all rules; true when it added something.
-fn pass(o: usize, n: usize, support: &mut [u8]) -> bool {
-    let chained = chain(o, n, support);
-    let turned = turn(o, n, support);
-    let denied = deny(o, n, support);
-    chained | turned | denied
-}
-
-// Links, identities, and passes until one adds nothing. Each other pass adds one of 2 × 1,024 × 1,024 statements, so these suffice.
-fn close_cells(o: usize, n: usize, words: &[u32], set: u32, support: &mut [u8]) {
-    add_links(words, set, support);
-    add_identities(o, n, support);
-    let mut passes: u32 = 0;
-    while passes < 2097154 {
-        if !pass(o, n, support) {
-            return;
+    // (3.2) and (3.4) for each kind q: where x → q, x is and is not whatever q is and is not.
+    fn chain(&mut self) -> bool {
+        let (o, n) = self.kinds();
+        let mut changed = false;
+        for q in o..n {
+            for x in 0..n {
+                if x != q && self.has(x, q, IS) {
+                    for r in o..n {
+                        let bits = self.at(q, r);
+                        changed |= self.add(x, r, bits);
+                    }
+                }
+            }
         }
-        passes += 1;
+        changed
     }
-}
 
-// A table without statements.
-pub fn empty_table() -> [u8; 1048576] {
-    [0u8; 1048576]
-}
-
-// Adds the chosen words to a table, and all that follows.
-pub fn close(o: usize, n: usize, words: &[u32], set: u32, support: &mut [u8; 1048576]) {
-    close_cells(o, n, words, set, support);
-}
-
-// A table of the links alone, as their plain words say them.
-pub fn links_of(words: &[u32]) -> [u8; 1048576] {
-    let mut links = empty_table();
-    add_links(words, 15, &mut links);
-    links
-}
-
-// Whether the table has what a plain word says.
-pub fn is_supported(support: &[u8; 1048576], word: u32) -> bool {
-    let bits = byte_at(support, node(plain(word) / 2));
-    if word % 2 == 0 {
-        return bits % 2 == 1;
-    }
-    bits >= 2
-}
-
-// How many statements a cell holds.
-fn statements(bits: u8) -> usize
-    ensures { result ≤ 2 }
-{
-    if bits == 0 {
-        return 0;
-    }
-    if bits == 3 {
-        return 2;
-    }
-    1
-}
-
-// How many statements the table holds.
-pub fn count_words(support: &[u8; 1048576]) -> usize {
-    let mut count: usize = 0;
-    let mut at: usize = 0;
-    while at < 1048576 {
-        count += statements(byte_at(support, at));
-        at += 1;
-    }
-    count
-}
-
-// The words of one cell into the list from `place` on; the place after them.
-fn write_cell(bits: u8, at: usize, list: &mut [u32], place: usize) -> usize {
-    let word = narrow(at % 1048576 * 2);
-    let next = put_word(list, place, word, bits % 2 == 1);
-    put_word(list, next, word | 1, bits >= 2)
-}
-
-// The words of the table, cell by cell, which is in ascending order.
-pub fn write_words(support: &[u8; 1048576], list: &mut [u32]) {
-    let mut place = 0;
-    let mut at: usize = 0;
-    while at < 1048576 {
-        place = write_cell(byte_at(support, at), at, list, place);
-        at += 1;
-    }
-}
-
-// The first cell that holds both, or 1,048,576: rows stand in the order of nodes, and cells of a row in the order of kinds.
-pub fn clashing_cell(support: &[u8; 1048576]) -> usize {
-    let mut at: usize = 0;
-    while at < 1048576 {
-        if byte_at(support, at) == 3 {
-            return at;
+    // (3.3) for each kind p: each kind that p is not, is not p.
+    fn turn(&mut self) -> bool {
+        let (o, n) = self.kinds();
+        let mut changed = false;
+        for p in o..n {
+            for q in o..n {
+                if self.has(p, q, IS_NOT) {
+                    changed |= self.add(q, p, IS_NOT);
+                }
+            }
         }
-        at += 1;
+        changed
     }
-    at
+
+    // (3.5) for each object a: where a ↛ q, the object is none of the kinds that are q.
+    fn deny(&mut self) -> bool {
+        let (o, n) = self.kinds();
+        let mut changed = false;
+        for a in 0..o {
+            for q in o..n {
+                if self.has(a, q, IS_NOT) {
+                    for p in o..n {
+                        if self.has(p, q, IS) {
+                            changed |= self.add(a, p, IS_NOT);
+                        }
+                    }
+                }
+            }
+        }
+        changed
+    }
+
+    // One pass of all rules; true when it added something.
+    fn pass(&mut self) -> bool {
+        let chained = self.chain();
+        let turned = self.turn();
+        let denied = self.deny();
+        chained | turned | denied
+    }
+
+    // The chosen links, (3.1) that every kind is itself, and passes until one adds nothing. Each other pass adds one of 2 × 1,024 × 1,024
+    // statements, so these suffice.
+    pub fn close(&mut self, net: Net) {
+        for &word in net.words {
+            if let Some(link) = net.link(word) {
+                self.put(link);
+            }
+        }
+        let (o, n) = self.kinds();
+        for p in o..n {
+            self.add(p, p, IS);
+        }
+        for _ in 0..2097154 {
+            if !self.pass() {
+                return;
+            }
+        }
+    }
+
+    // How many statements it has.
+    pub fn count(&self) -> usize {
+        let (o, n) = self.kinds();
+        let mut count: usize = 0;
+        for x in 0..n {
+            for y in o..n {
+                count = count.saturating_add(self.at(x, y).count_ones() as usize);
+            }
+        }
+        count
+    }
+
+    // Their words behind the words of a list, cell by cell, which is in ascending order.
+    pub fn write(&self, list: &mut Filling<u32>) {
+        let (o, n) = self.kinds();
+        for x in 0..n {
+            for y in o..n {
+                if self.has(x, y, IS) {
+                    list.push(Statement::is(narrow(x), narrow(y)).word());
+                }
+                if self.has(x, y, IS_NOT) {
+                    list.push(Statement::is_not(narrow(x), narrow(y)).word());
+                }
+            }
+        }
+    }
+
+    // The first two nodes whose byte holds both: rows stand in the order of nodes, and cells of a row in the order of kinds.
+    pub fn clash(&self) -> Option<(u32, u32)> {
+        let (o, n) = self.kinds();
+        for x in 0..n {
+            for y in o..n {
+                if self.at(x, y) == 3 {
+                    return Some((narrow(x), narrow(y)));
+                }
+            }
+        }
+        None
+    }
+
+    // The reply of a completion: all words in a list, or number 8 where they have no room.
+    pub fn complete(&self, list: &mut [u32]) -> Result<Reply, Refusal> {
+        let needed = self.count();
+        if list.len() < needed {
+            return Err(Refusal::List { needed, which: 0 });
+        }
+        self.write(&mut Filling::new(list));
+        Ok(given(narrow(needed), 0))
+    }
+}
+
+// All supported words, ascending and plain.
+pub fn completion(net: Net, marks: &mut [u8], list: &mut [u32]) -> Result<Reply, Refusal> {
+    net.check()?;
+    net.nodes.marks(marks)?.fill(0);
+    let mut room = [0; CELLS];
+    Table::of(net, &mut room).complete(list)
+}
+
+// The smallest node, object or kind, that both is and is not some kind, and the smallest such kind of that node.
+pub fn clash(net: Net, marks: &mut [u8]) -> Result<Reply, Refusal> {
+    net.check()?;
+    net.nodes.marks(marks)?.fill(0);
+    let mut room = [0; CELLS];
+    let (x, y) = Table::of(net, &mut room)
+        .clash()
+        .ok_or(Refusal::NothingThere)?;
+    Ok(given(x, y))
 }

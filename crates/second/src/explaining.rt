@@ -1,240 +1,144 @@
 // The lines for a reason: the reason is walked link by link, and each link puts its own line and the line that a rule gives on it.
-use crate::derivation::{Line, line_by};
-use crate::path::{has, number, says, word_of};
-use crate::places::{entry_at, front, narrow, put_word, wide};
-use crate::sequents::behind;
+use crate::derivation::{Rule, given_by};
+use crate::net::{Net, Statement};
+use crate::path::Path;
+use crate::places::{Filling, front, narrow};
+use crate::reply::{Refusal, Reply, given};
+use crate::search::reason;
 
-// Puts a line, which has that number, and gives the number of the next.
-fn put_line(lines: &mut [u32], at: usize, line: Line) -> usize {
-    let rule = put_word(lines, at % 4096 * 4, line.statement, true);
-    let one = put_word(lines, rule, line.rule, true);
-    let two = put_word(lines, one, line.one, true);
-    put_word(lines, two, line.two, true);
-    at % 4096 + 1
+// The lines so far, as four numbers each.
+#[derive(Drop)]
+struct Lines<'a> {
+    net: Net<'a>,
+    numbers: Filling<'a, u32>,
 }
 
-// Puts the line that a rule gives on one or two lines above it.
-fn put_rule(
-    o: u32,
-    k: u32,
-    rule: u32,
-    one: usize,
-    two: usize,
-    lines: &mut [u32],
-    at: usize,
-) -> usize {
-    let line = line_by(
-        o,
-        k,
-        front(lines, at % 4096 * 4),
-        rule,
-        narrow(one),
-        narrow(two),
-    );
-    put_line(lines, at, line)
-}
+impl<'a> Lines<'a> {
+    // Puts the line that a rule gives of a node, and gives its number.
+    fn put(&mut self, rule: Rule, x: u32) -> u32 {
+        let number = narrow(self.numbers.count() / 4);
+        let word = match given_by(self.net, self.numbers.so_far(), rule, x) {
+            Some(said) => said.word(),
+            None => 0,
+        };
+        self.numbers.push(word);
+        self.numbers.extend(&rule.numbers());
+        number
+    }
 
-// The index of the first chosen word that says what a plain word says, or the number of words.
-fn index_of(words: &[u32], set: u32, word: u32) -> usize {
-    let mut i = 0;
-    while i < words.len() {
-        if says(set, words[i], word) {
-            return i;
+    // Puts the line of the first link that says something.
+    fn put_link(&mut self, said: Statement) -> u32 {
+        let index = self.net.index_of(said).unwrap_or(0);
+        self.put(Rule::Link(narrow(index)), said.x)
+    }
+
+    // Puts the lines up the first part: each link, and what it gives on the line before. None where the part is one node.
+    fn put_up(&mut self, first: &[u16]) -> Option<u32> {
+        let mut last = None;
+        for pair in first.windows(2) {
+            if let [from, to] = pair {
+                let link = self.put_link(Statement::is(u32::from(*from), u32::from(*to)));
+                last = match last {
+                    Some(above) => Some(self.put(Rule::Onward(above, link), 0)),
+                    None => Some(link),
+                };
+            }
         }
-        i += 1;
+        last
     }
-    i
+
+    // Puts the lines of the crossing, so that the last says u ↛ v.
+    fn put_crossing(&mut self, u: u32, v: u32) -> u32 {
+        let straight = Statement::is_not(u, v);
+        if self.net.has(straight) {
+            return self.put_link(straight);
+        }
+        let back = self.put_link(Statement::is_not(v, u));
+        self.put(Rule::Turned(back), 0)
+    }
+
+    // Puts the lines down the second part: each link, and what a rule gives on it and the line before.
+    fn put_down<F: Fn(u32, u32) -> Rule>(&mut self, second: &[u16], crossed: u32, by: F) -> u32
+        requires { F.IsAlwaysCallable by }
+    {
+        let mut last = crossed;
+        for pair in second.windows(2) {
+            if let [from, to] = pair {
+                let link = self.put_link(Statement::is(u32::from(*to), u32::from(*from)));
+                last = self.put(by(link, last), 0);
+            }
+        }
+        last
+    }
+
+    // Puts what the last line gives of x, by the last of the first part's lines, where there are any.
+    fn put_joined(&mut self, risen: Option<u32>, last: u32) -> u32 {
+        match risen {
+            Some(risen) => self.put(Rule::OnwardNot(risen, last), 0),
+            None => last,
+        }
+    }
+
+    // Puts crossing and second part behind the lines of the first part, which is joined before the way down.
+    fn put_sinking(&mut self, u: u32, v: u32, second: &[u16], risen: Option<u32>) {
+        let crossed = self.put_crossing(u, v);
+        let joined = self.put_joined(risen, crossed);
+        self.put_down(second, joined, |link, last| Rule::Below(link, last));
+    }
+
+    // The same for a kind: the way down is taken the other way round, turned at its end, and then joined.
+    fn put_swinging(&mut self, u: u32, v: u32, second: &[u16], risen: Option<u32>) {
+        let crossed = self.put_crossing(v, u);
+        let sunk = self.put_down(second, crossed, |link, last| Rule::OnwardNot(link, last));
+        let turned = self.put(Rule::Turned(sunk), 0);
+        self.put_joined(risen, turned);
+    }
+
+    // Puts the lines for a reason from x: the one line that x, a kind, is itself, where the reason has no link.
+    fn put_path(&mut self, path: Path, x: u32) {
+        let risen = self.put_up(path.first);
+        match path.crossing() {
+            None if risen.is_none() => {
+                self.put(Rule::Itself, x);
+            }
+            None => {}
+            Some((u, v)) if x < self.net.nodes.objects || path.second.len() == 1 => {
+                self.put_sinking(u, v, path.second, risen);
+            }
+            Some((u, v)) => self.put_swinging(u, v, path.second, risen),
+        }
+    }
 }
 
-// Puts the line of the link with that plain word.
-fn put_link(words: &[u32], set: u32, word: u32, lines: &mut [u32], at: usize) -> usize {
-    let line = Line {
-        statement: word,
-        rule: 0,
-        one: narrow(index_of(words, set, word)),
-        two: 0,
+// Writes the lines for a reason from x, and gives how many numbers they are.
+fn write_lines(net: Net, x: u32, list: &[u16], room: &mut [u32]) -> usize {
+    let mut lines = Lines {
+        net,
+        numbers: Filling::new(room),
     };
-    put_line(lines, at, line)
+    if let Some(path) = Path::of(list) {
+        lines.put_path(path, x);
+    }
+    lines.numbers.count()
 }
 
-// Puts the link of a step up the first part, and what it gives on the line before, if there is one.
-fn put_up(
-    o: u32,
-    k: u32,
-    words: &[u32],
-    set: u32,
-    from: u16,
-    to: u16,
+// The shortest reason for the statement (x, y, sign), and the lines that derive the statement by it.
+pub fn explain(
+    net: Net,
+    x: u32,
+    y: u32,
+    sign: u32,
+    scratch: &mut [u16],
+    list: &mut [u16],
     lines: &mut [u32],
-    at: usize,
-) -> usize {
-    let next = put_link(words, set, word_of(from, to, 0), lines, at);
-    if at == 0 {
-        return next;
+) -> Result<Reply, Refusal> {
+    let found = reason(net, x, y, sign, scratch, list)?;
+    let path = front(list, found.first as usize);
+    let mut room = [0u32; 16384];
+    let needed = write_lines(net, x, path, &mut room);
+    if lines.len() < needed {
+        return Err(Refusal::List { needed, which: 1 });
     }
-    put_rule(o, k, 2, at - 1, at, lines, next)
-}
-
-// Puts the lines of the first part, none where it is one node, and gives their number.
-fn put_first(o: u32, k: u32, words: &[u32], set: u32, reason: &[u16], lines: &mut [u32]) -> usize {
-    let end = wide(entry_at(reason, 0)) + 2;
-    let mut at: usize = 0;
-    let mut i = 3;
-    while i < end {
-        let from = entry_at(reason, i - 1);
-        at = put_up(o, k, words, set, from, entry_at(reason, i), lines, at);
-        i += 1;
-    }
-    at
-}
-
-// Puts the lines of the crossing, so that the last says u ↛ v.
-fn put_crossing(
-    o: u32,
-    k: u32,
-    words: &[u32],
-    set: u32,
-    u: u16,
-    v: u16,
-    lines: &mut [u32],
-    at: usize,
-) -> usize {
-    let straight = word_of(u, v, 1);
-    if has(words, set, straight) {
-        return put_link(words, set, straight, lines, at);
-    }
-    let next = put_link(words, set, word_of(v, u, 1), lines, at);
-    put_rule(o, k, 3, at, 0, lines, next)
-}
-
-// Puts the link of a step down the second part, and what a rule gives on it and the line before.
-fn put_down(
-    o: u32,
-    k: u32,
-    words: &[u32],
-    set: u32,
-    rule: u32,
-    from: u16,
-    to: u16,
-    lines: &mut [u32],
-    at: usize,
-) -> usize {
-    let next = put_link(words, set, word_of(to, from, 0), lines, at);
-    put_rule(o, k, rule, at, behind(1, at), lines, next)
-}
-
-// Puts the lines of the second part behind its first node, by rule 5 for an object and by rule 4 for a kind.
-fn put_second(
-    o: u32,
-    k: u32,
-    words: &[u32],
-    set: u32,
-    rule: u32,
-    reason: &[u16],
-    lines: &mut [u32],
-    crossed: usize,
-) -> usize {
-    let begin = wide(entry_at(reason, 0)) + 3;
-    let end = wide(entry_at(reason, 1)) + begin - 1;
-    let mut at = crossed;
-    let mut i = begin;
-    while i < end {
-        let from = entry_at(reason, i - 1);
-        at = put_down(o, k, words, set, rule, from, entry_at(reason, i), lines, at);
-        i += 1;
-    }
-    at
-}
-
-// Puts what the last line gives of x, by the last of the first part's lines, where there are any.
-fn put_joined(o: u32, k: u32, risen: usize, lines: &mut [u32], at: usize) -> usize {
-    if risen == 0 {
-        return at;
-    }
-    put_rule(o, k, 4, risen - 1, behind(1, at), lines, at)
-}
-
-// The last node of the first part.
-fn last_up(reason: &[u16]) -> u16 {
-    entry_at(reason, wide(entry_at(reason, 0)) + 1)
-}
-
-// The first node of the second part.
-fn first_down(reason: &[u16]) -> u16 {
-    entry_at(reason, wide(entry_at(reason, 0)) + 2)
-}
-
-// Puts crossing and second part behind the lines of the first part, which is joined before the way down.
-fn put_sinking(
-    o: u32,
-    k: u32,
-    words: &[u32],
-    set: u32,
-    reason: &[u16],
-    lines: &mut [u32],
-    risen: usize,
-) -> usize {
-    let u = last_up(reason);
-    let v = first_down(reason);
-    let crossed = put_crossing(o, k, words, set, u, v, lines, risen);
-    let joined = put_joined(o, k, risen, lines, crossed);
-    put_second(o, k, words, set, 5, reason, lines, joined)
-}
-
-// The same for a kind: the way down is taken the other way round, turned at its end, and then joined.
-fn put_swinging(
-    o: u32,
-    k: u32,
-    words: &[u32],
-    set: u32,
-    reason: &[u16],
-    lines: &mut [u32],
-    risen: usize,
-) -> usize {
-    let u = last_up(reason);
-    let v = first_down(reason);
-    let crossed = put_crossing(o, k, words, set, v, u, lines, risen);
-    let sunk = put_second(o, k, words, set, 4, reason, lines, crossed);
-    let turned = put_rule(o, k, 3, behind(1, sunk), 0, lines, sunk);
-    put_joined(o, k, risen, lines, turned)
-}
-
-// Puts the one line that x, a kind, is itself.
-fn put_itself(x: u16, lines: &mut [u32]) -> usize {
-    let line = Line {
-        statement: word_of(x, x, 0),
-        rule: 1,
-        one: 0,
-        two: 0,
-    };
-    put_line(lines, 0, line)
-}
-
-// Writes the lines for a reason, and gives their number.
-fn put_lines(o: u32, k: u32, words: &[u32], set: u32, reason: &[u16], lines: &mut [u32]) -> usize {
-    let x = entry_at(reason, 2);
-    let down = entry_at(reason, 1);
-    let risen = put_first(o, k, words, set, reason, lines);
-    if down == 0 && risen == 0 {
-        return put_itself(x, lines);
-    }
-    if down == 0 {
-        return risen;
-    }
-    if number(x) < o || down == 1 {
-        return put_sinking(o, k, words, set, reason, lines, risen);
-    }
-    put_swinging(o, k, words, set, reason, lines, risen)
-}
-
-// Writes the lines for a reason, and gives how many places they take.
-pub fn write_lines(
-    o: u32,
-    k: u32,
-    words: &[u32],
-    set: u32,
-    reason: &[u16],
-    lines: &mut [u32],
-) -> usize {
-    put_lines(o, k, words, set, reason, lines) % 4096 * 4
+    Filling::new(lines).extend(front(&room, needed));
+    Ok(given(narrow(needed), found.first))
 }

@@ -1,153 +1,92 @@
-// The net file: every part of it stands at a multiple of four bytes, so a place counts numbers of four bytes.
-ghost use Rattle.std.specs.Prelude.{◌<◌};
+// The net file: every part of it stands at a multiple of four bytes. The contents have two numbers for each entry, where its body starts and how long it
+// is, and end where the first body starts.
+use crate::net::Nodes;
+use crate::places::narrow;
+use crate::reply::{Refusal, Reply, given};
 
-use crate::places::{byte_at, narrow, put_word};
-
-// A byte as a u32.
-fn widened(byte: u8) -> u32
-    ensures { result < 256 }
-{
-    byte as u32
-}
-
-// The number at a place, the lowest byte first.
-pub fn number_at(file: &[u8], place: usize) -> u32 {
-    if place >= 8192 {
-        return 0;
+// The number at a place of four bytes, the lowest byte first.
+fn number_at(bytes: &[u8], place: usize) -> u32 {
+    let at = place.saturating_mul(4);
+    match bytes.get(at..) {
+        Some([a, b, c, d, ..]) => u32::from_le_bytes([*a, *b, *c, *d]),
+        _ => 0,
     }
-    let at = place * 4;
-    let low = widened(byte_at(file, at)) + widened(byte_at(file, at + 1)) * 256;
-    let high = widened(byte_at(file, at + 2)) + widened(byte_at(file, at + 3)) * 256;
-    high * 65536 + low
 }
 
-// What stands for the place of a 9 where the file is well formed.
-pub const WELL_FORMED: u32 = 5;
-
-// Whether the contents have a fourth entry, for the set of origins: they end where the first body starts.
-pub fn has_set(file: &[u8]) -> bool {
-    number_at(file, 0) == 32
-}
-
-// An entry's start.
-pub fn start_of(file: &[u8], entry: usize) -> u32 {
-    if entry > 3 {
-        return 0;
+// The numbers of bytes, in front of a list as far as there is room; how many there are.
+pub fn read_numbers(bytes: &[u8], list: &mut [u32]) -> usize {
+    for (four, number) in bytes.chunks_exact(4).zip(list.iter_mut()) {
+        *number = number_at(four, 0);
     }
-    number_at(file, entry * 2)
+    bytes.len() / 4
 }
 
-// An entry's length.
-fn length_of(file: &[u8], entry: usize) -> u32 {
-    if entry > 3 {
-        return 0;
-    }
-    number_at(file, entry * 2 + 1)
+// The bodies of a well-formed file, and where those of the questions and of the set start. Without a set all origins are in it.
+#[derive(Clone, Copy)]
+pub struct NetFile<'a> {
+    pub nodes: Nodes,
+    pub words: &'a [u8],
+    pub questions: &'a [u8],
+    pub set: Option<u32>,
+    questions_start: usize,
+    set_start: usize,
 }
 
-// Where an entry ends.
-fn end_of(file: &[u8], entry: usize) -> u64 {
-    start_of(file, entry) as u64 + length_of(file, entry) as u64
+// The body of an entry, if it starts where it has to, has a length in fours, and ends inside the file.
+fn body<'a>(file: &'a [u8], entry: usize, start: usize) -> Option<&'a [u8]> {
+    let length = number_at(file, entry.saturating_mul(2).saturating_add(1)) as usize;
+    if number_at(file, entry.saturating_mul(2)) as usize != start || length % 4 != 0 {
+        return None;
+    }
+    file.get(start..)?.get(..length)
 }
 
-// Whether an entry starts where it has to, has a length in fours, and ends inside the file.
-fn is_open(file: &[u8], entry: usize, start: u64) -> bool {
-    start_of(file, entry) as u64 == start
-        && length_of(file, entry) % 4 == 0
-        && end_of(file, entry) <= file.len() as u64
+impl<'a> NetFile<'a> {
+    // Opens a file; number 9 with the place of the first fault: an entry's number, 3 for the size, and 4 for the set.
+    pub fn of(file: &'a [u8]) -> Result<NetFile<'a>, Refusal> {
+        let has_set = number_at(file, 0) == 32;
+        let contents = if has_set { 32 } else { 24 };
+        if file.len() < contents || file.len() > 32768 {
+            return Err(Refusal::File { place: 3 });
+        }
+        let sizes = body(file, 0, contents).ok_or(Refusal::File { place: 0 })?;
+        if sizes.len() != 8 {
+            return Err(Refusal::File { place: 0 });
+        }
+        let words_start = contents + 8;
+        let words = body(file, 1, words_start).ok_or(Refusal::File { place: 1 })?;
+        let questions_start = words_start.saturating_add(words.len());
+        let questions = body(file, 2, questions_start).ok_or(Refusal::File { place: 2 })?;
+        let set_start = questions_start.saturating_add(questions.len());
+        let set = if has_set {
+            let last = body(file, 3, set_start).ok_or(Refusal::File { place: 4 })?;
+            if last.len() != 4 || file.len() != set_start.saturating_add(4) {
+                return Err(Refusal::File { place: 4 });
+            }
+            Some(number_at(last, 0))
+        } else {
+            if file.len() != set_start {
+                return Err(Refusal::File { place: 2 });
+            }
+            None
+        };
+        let nodes = Nodes {
+            objects: number_at(sizes, 0),
+            kinds: number_at(sizes, 1),
+        };
+        Ok(NetFile {
+            nodes,
+            words,
+            questions,
+            set,
+            questions_start,
+            set_start,
+        })
+    }
 }
 
-// The place of the first of three entries that cannot be opened, where the contents have that size.
-fn wrong_entry(file: &[u8], contents: u64) -> u32 {
-    if !is_open(file, 0, contents) || length_of(file, 0) != 8 {
-        return 0;
-    }
-    if !is_open(file, 1, end_of(file, 0)) {
-        return 1;
-    }
-    if !is_open(file, 2, end_of(file, 1)) {
-        return 2;
-    }
-    WELL_FORMED
-}
-
-// Whether an entry ends with the file.
-fn is_last(file: &[u8], entry: usize) -> bool {
-    end_of(file, entry) == file.len() as u64
-}
-
-// The place of the 9 of a file with three entries.
-fn wrong_in_three(file: &[u8]) -> u32 {
-    let place = wrong_entry(file, 24);
-    if place == WELL_FORMED && !is_last(file, 2) {
-        return 2;
-    }
-    place
-}
-
-// The place of the 9 of a file with four entries.
-fn wrong_in_four(file: &[u8]) -> u32 {
-    if file.len() < 32 {
-        return 3;
-    }
-    let place = wrong_entry(file, 32);
-    if place != WELL_FORMED {
-        return place;
-    }
-    if !is_open(file, 3, end_of(file, 2)) || length_of(file, 3) != 4 || !is_last(file, 3) {
-        return 4;
-    }
-    place
-}
-
-// The place of the 9.
-pub fn wrong_place(file: &[u8]) -> u32 {
-    if file.len() < 24 || file.len() > 32768 {
-        return 3;
-    }
-    if has_set(file) {
-        return wrong_in_four(file);
-    }
-    wrong_in_three(file)
-}
-
-// The place of the first number of an entry's body in a well-formed file.
-pub fn first_of(file: &[u8], entry: usize) -> usize
-    ensures { result < 1073741824 }
-{
-    (start_of(file, entry) / 4) as usize
-}
-
-// How many numbers of four bytes an entry's body holds in a well-formed file.
-pub fn count_of(file: &[u8], entry: usize) -> usize
-    ensures { result < 1073741824 }
-{
-    (length_of(file, entry) / 4) as usize
-}
-
-// The set of origins of a well-formed file: all of them where it has none.
-pub fn set_of(file: &[u8]) -> u32 {
-    if has_set(file) {
-        return number_at(file, first_of(file, 3));
-    }
-    15
-}
-
-// Where the set of a well-formed file starts: at its end where it has none.
-pub fn set_start(file: &[u8]) -> u32 {
-    if has_set(file) {
-        return start_of(file, 3);
-    }
-    narrow(file.len())
-}
-
-// The words of a well-formed file, as many as there is room for.
-pub fn read_words(file: &[u8], words: &mut [u32]) {
-    let first = first_of(file, 1);
-    let count = count_of(file, 1);
-    let mut i = 0;
-    while i < count {
-        put_word(words, i, number_at(file, first + i), true);
-        i += 1;
-    }
+// Where the questions and the set of a well-formed file start; the place of a malformed one's 9.
+pub fn read_file(file: &[u8]) -> Result<Reply, Refusal> {
+    let opened = NetFile::of(file)?;
+    Ok(given(narrow(opened.questions_start), narrow(opened.set_start)))
 }

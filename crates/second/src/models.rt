@@ -1,124 +1,84 @@
 // Valuations of section 6. A lent table has k bytes for each element, in node order; here they stand in a square, in the cells of the table of
 // supported statements. Of such a byte bit 0 is T and bit 1 is F.
-use crate::closure::{answer_byte, cell, empty_table};
-use crate::places::{byte_at, put_byte};
+use crate::closure::{CELLS, Room, Table};
+use crate::net::{Net, Nodes, Sign, Statement};
+use crate::places::Filling;
+use crate::reply::{Refusal, Reply, given};
 
 const T: u8 = 1;
 
 const F: u8 = 2;
 
-// Whether so many bytes are enough for k of each of n elements.
-pub fn is_room(n: usize, k: usize, size: usize) -> bool {
-    k == 0 || n <= size / k
+// Whether so many places are enough for `width` of each of n elements.
+pub fn is_room(n: usize, width: usize, size: usize) -> bool {
+    width == 0 || n <= size / width
 }
 
-// The place after `at`, or the end.
-fn after(bytes: &[u8], at: usize) -> usize {
-    if at < bytes.len() { at + 1 } else { at }
-}
-
-// The bytes of element d into the table from a place on, off the supported statements; the place after them.
-fn write_row(
-    o: usize,
-    n: usize,
-    support: &[u8; 1048576],
-    d: usize,
-    table: &mut [u8],
-    from: usize,
-) -> usize {
-    let mut at = from;
-    let mut p = o;
-    while p < n {
-        put_byte(table, at, answer_byte(support, d, p));
-        at = after(table, at);
-        p += 1;
+// The valuation of a net: its elements are the objects and a witness for each kind, and the byte of an element and a kind is the answer for
+// that node and kind.
+pub fn valuation(net: Net, table: &mut [u8], marks: &mut [u8]) -> Result<Reply, Refusal> {
+    net.check()?;
+    let marks = net.nodes.marks(marks)?;
+    let (o, n) = (net.nodes.first_kind(), net.nodes.count());
+    if !is_room(n, net.nodes.kinds as usize, table.len()) {
+        return Err(Refusal::Table);
     }
-    at
-}
-
-// The bytes of all elements.
-pub fn write_rows(o: usize, n: usize, support: &[u8; 1048576], table: &mut [u8]) {
-    let mut at = 0;
-    let mut d = 0;
-    while d < n {
-        at = write_row(o, n, support, d, table, at);
-        d += 1;
+    marks.fill(0);
+    let mut room = [0; CELLS];
+    let support = Table::of(net, &mut room);
+    let mut values = Filling::new(table);
+    for d in 0..n {
+        for p in o..n {
+            values.push(support.at(d, p));
+        }
     }
+    Ok(given(0, 0))
 }
 
-// The bytes of element d, from a place of the table on, into the square; the place after them.
-fn read_row(o: usize, n: usize, table: &[u8], from: usize, d: usize, square: &mut [u8]) -> usize {
-    let mut at = from;
-    let mut p = o;
-    while p < n {
-        put_byte(square, cell(d, p), byte_at(table, at));
-        at = after(table, at);
-        p += 1;
+// A lent table as a square, in room that is all zeros.
+fn square_of<'a>(nodes: Nodes, table: &[u8], room: &'a mut Room) -> Table<'a> {
+    let mut square = Table::over(nodes, room);
+    let mut values = table.iter();
+    for d in 0..nodes.count() {
+        for p in nodes.first_kind()..nodes.count() {
+            if let Some(&value) = values.next() {
+                square.add(d, p, value);
+            }
+        }
     }
-    at
-}
-
-// The bytes of all elements.
-fn read_rows(o: usize, n: usize, table: &[u8], square: &mut [u8]) {
-    let mut at = 0;
-    let mut d = 0;
-    while d < n {
-        at = read_row(o, n, table, at, d, square);
-        d += 1;
-    }
-}
-
-// A table as a square.
-pub fn square_of(o: usize, n: usize, table: &[u8]) -> [u8; 1048576] {
-    let mut square = empty_table();
-    read_rows(o, n, table, &mut square);
     square
 }
 
-// Whether no byte is above 3.
-pub fn are_values(square: &[u8; 1048576]) -> bool {
-    let mut at: usize = 0;
-    while at < 1048576 {
-        if byte_at(square, at) > 3 {
-            return false;
-        }
-        at += 1;
-    }
-    true
-}
-
-// Whether the value of kind p at element d has that truth.
-fn has(square: &[u8], d: usize, p: usize, truth: u8) -> bool {
-    byte_at(square, cell(d, p)) & truth != 0
-}
-
 // Whether all elements that have one truth at p have the other at q.
-fn is_inside(n: usize, square: &[u8], p: usize, one: u8, q: usize, other: u8) -> bool {
-    let mut d = 0;
-    while d < n {
-        if has(square, d, p, one) && !has(square, d, q, other) {
-            return false;
-        }
-        d += 1;
-    }
-    true
+fn is_inside(n: usize, square: &Table, p: usize, one: u8, q: usize, other: u8) -> bool {
+    (0..n).all(|d| !square.has(d, p, one) || square.has(d, q, other))
 }
 
-// (6.3): T goes from p to q, and F from q to p. (6.4): T of each is F of the other.
-fn holds_of_kinds(n: usize, square: &[u8], p: usize, q: usize, sign: u32) -> bool {
-    if sign == 0 {
-        return is_inside(n, square, p, T, q, T) && is_inside(n, square, q, F, p, F);
+// Whether the statement holds: of an object by (6.1) and (6.2). Of a kind, by (6.3) T goes from x to y and F from y to x, and by (6.4) T of each is F of
+// the other.
+fn holds(nodes: Nodes, square: &Table, said: Statement) -> bool {
+    let n = nodes.count();
+    let (x, y) = (said.x as usize, said.y as usize);
+    let is_object = said.x < nodes.objects;
+    match said.sign {
+        Sign::Is if is_object => square.has(x, y, T),
+        Sign::IsNot if is_object => square.has(x, y, F),
+        Sign::Is => is_inside(n, square, x, T, y, T) && is_inside(n, square, y, F, x, F),
+        Sign::IsNot => is_inside(n, square, x, T, y, F) && is_inside(n, square, y, T, x, F),
     }
-    is_inside(n, square, p, T, q, F) && is_inside(n, square, q, T, p, F)
 }
 
-// Whether the statement (x, y, sign) holds: of an object by (6.1) and (6.2), of a kind by (6.3) and (6.4).
-pub fn holds(o: usize, n: usize, square: &[u8; 1048576], x: usize, y: usize, sign: u32) -> bool {
-    if x >= o {
-        return holds_of_kinds(n, square, x, y, sign);
+// Whether a statement holds in a lent valuation of that shape.
+pub fn satisfies(nodes: Nodes, table: &[u8], x: u32, y: u32, sign: u32) -> Result<Reply, Refusal> {
+    nodes.check()?;
+    let said = nodes.statement(x, y, sign)?;
+    if !is_room(nodes.count(), nodes.kinds as usize, table.len()) {
+        return Err(Refusal::Table);
     }
-    if sign == 0 {
-        return has(square, x, y, T);
+    let mut room = [0; CELLS];
+    let square = square_of(nodes, table, &mut room);
+    if !square.is_of_answers() {
+        return Err(Refusal::Table);
     }
-    has(square, x, y, F)
+    Ok(given(u32::from(holds(nodes, &square, said)), 0))
 }

@@ -1,107 +1,72 @@
-// Reading and writing at any place: a place outside the slice reads as nothing and takes nothing.
-ghost use Rattle.std.specs.Prelude.{◌<◌};
-
-// A node number as an index.
-pub fn node(number: u32) -> usize {
-    number as usize
-}
+// Reading and writing at any place of a lent slice: a place outside it reads as nothing and takes nothing.
 
 // A size as a u32, the largest u32 where it does not fit.
 pub fn narrow(size: usize) -> u32 {
-    if size < 4294967296 {
-        size as u32
-    } else {
-        4294967295
-    }
+    u32::try_from(size).unwrap_or(u32::MAX)
 }
 
-// A u16 as a usize.
-pub fn wide(number: u16) -> usize
-    ensures { result < 65536 }
-{
-    number as usize
+// The item at a place, or another where there is no such place.
+pub fn item_at<T: Copy>(items: &[T], at: usize, other: T) -> T {
+    items.get(at).copied().unwrap_or(other)
 }
 
-// The byte at a place, or 0.
-pub fn byte_at(bytes: &[u8], at: usize) -> u8 {
-    if at < bytes.len() { bytes[at] } else { 0 }
-}
-
-// Puts a byte at a place, if there is such a place.
-pub fn put_byte(bytes: &mut [u8], at: usize, byte: u8) {
-    if at < bytes.len() {
-        bytes[at] = byte;
+// Puts an item at a place, if there is such a place.
+pub fn put<T: Copy>(items: &mut [T], at: usize, item: T) {
+    if let Some(place) = items.get_mut(at) {
+        *place = item;
     }
 }
 
 // Adds bits to the byte at a place; true when the byte changed.
 pub fn add_bits(bytes: &mut [u8], at: usize, bits: u8) -> bool {
-    if at >= bytes.len() {
+    let Some(byte) = bytes.get_mut(at) else {
         return false;
-    }
-    let old = bytes[at];
-    if old | bits == old {
-        return false;
-    }
-    bytes[at] = old | bits;
-    true
+    };
+    let old = *byte;
+    *byte = old | bits;
+    *byte != old
 }
 
-// Zeroes the first `n` bytes.
-pub fn clear(bytes: &mut [u8], n: usize) {
-    let mut at = 0;
-    while at < n {
-        put_byte(bytes, at, 0);
-        at += 1;
-    }
+// The first `count` items, all of them where there are fewer.
+pub fn front<'a, T>(items: &'a [T], count: usize) -> &'a [T] {
+    items.get(..count).unwrap_or(items)
 }
 
-// The u16 at a place, or 65,535.
-pub fn entry_at(numbers: &[u16], at: usize) -> u16 {
-    if at < numbers.len() {
-        numbers[at]
-    } else {
-        65535
-    }
+// A lent slice that is filled from its front: what has no room is left out.
+#[derive(Drop)]
+pub struct Filling<'a, T> {
+    items: &'a mut [T],
+    filled: usize,
 }
 
-// Puts a u16 at a place, if there is such a place.
-pub fn put_number(numbers: &mut [u16], at: usize, number: u16) {
-    if at < numbers.len() {
-        numbers[at] = number;
+impl<'a, T: Copy> Filling<'a, T> {
+    // Of an empty front.
+    pub fn new(items: &'a mut [T]) -> Filling<'a, T> {
+        Filling { items, filled: 0 }
     }
-}
 
-// The word at a place, or 0.
-pub fn word_at(words: &[u32], at: usize) -> u32 {
-    if at < words.len() { words[at] } else { 0 }
-}
-
-// Puts a word at a place, if it is wanted and there is such a place, and gives the place after it.
-pub fn put_word(words: &mut [u32], at: usize, word: u32, wanted: bool) -> usize {
-    if !wanted {
-        return at;
+    // Puts an item behind those put before, if there is room.
+    pub fn push(&mut self, item: T) {
+        if let Some(place) = self.items.get_mut(self.filled) {
+            *place = item;
+            self.filled += 1;
+        }
     }
-    if at < words.len() {
-        words[at] = word;
-        return at + 1;
-    }
-    at
-}
 
-// The first `count` words, all of them where there are fewer.
-pub fn front<'a>(words: &'a [u32], count: usize) -> &'a [u32] {
-    if count <= words.len() {
-        return &words[..count];
+    // Puts item after item.
+    pub fn extend(&mut self, items: &[T]) {
+        for &item in items {
+            self.push(item);
+        }
     }
-    words
-}
 
-// Copies words in front of others, as far as there is room.
-pub fn copy(from: &[u32], to: &mut [u32]) {
-    let mut at = 0;
-    while at < from.len() {
-        put_word(to, at, from[at], true);
-        at += 1;
+    // How many items are put.
+    pub fn count(&self) -> usize {
+        self.filled
+    }
+
+    // The items that are put.
+    pub fn so_far(&self) -> &[T] {
+        front(self.items, self.filled)
     }
 }

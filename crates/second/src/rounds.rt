@@ -1,147 +1,125 @@
 // The rounds of the marker machine, each marker in an array of its own: 1 where the node has the mark, 0 elsewhere.
-use crate::check::{head_of, is_chosen, node_count, tail_of};
-use crate::places::{add_bits, byte_at, narrow, node, put_byte};
-use crate::reply::{Reply, given};
+use crate::closure::{CELLS, Table};
+use crate::net::{Net, Nodes, Sign};
+use crate::places::{add_bits, item_at, narrow};
+use crate::reply::{Refusal, Reply, given};
 
-// One command: each chosen link of that sign with a mark of `old` at one end puts a mark at its other end; `down` goes from tail to head.
-fn command(
-    words: &[u32],
-    set: u32,
-    sign: u32,
-    down: bool,
-    old: &[u8; 1024],
-    marker: &mut [u8; 1024],
-) -> bool {
+// A byte for each node.
+type Marker = [u8; 1024];
+
+// The way of a command over a link: from its tail to its head, or back.
+#[derive(Clone, Copy)]
+enum Way {
+    Down,
+    Up,
+}
+
+// One command: each chosen link of that sign with a mark of `old` at one end puts a mark at its other end; true when one was set.
+fn command(net: Net, sign: Sign, way: Way, old: &Marker, marker: &mut Marker) -> bool {
     let mut changed = false;
-    let mut i = 0;
-    while i < words.len() {
-        changed = changed | follow(words[i], set, sign, down, old, marker);
-        i += 1;
+    for &word in net.words {
+        if let Some(link) = net.link(word) {
+            if link.sign == sign {
+                let (from, to) = match way {
+                    Way::Down => (link.x as usize, link.y as usize),
+                    Way::Up => (link.y as usize, link.x as usize),
+                };
+                changed |= add_bits(marker, to, item_at(old, from, 0));
+            }
+        }
     }
     changed
 }
 
-// What a command does at one word.
-fn follow(
-    word: u32,
-    set: u32,
-    sign: u32,
-    down: bool,
-    old: &[u8; 1024],
-    marker: &mut [u8; 1024],
-) -> bool {
-    if !is_chosen(set, word) || word % 2 != sign {
-        return false;
-    }
-    let tail = node(tail_of(word));
-    let head = node(head_of(word));
-    if down {
-        return add_bits(marker, head, byte_at(old, tail));
-    }
-    add_bits(marker, tail, byte_at(old, head))
+// The three markers of a scan.
+#[derive(Drop)]
+pub struct Markers {
+    t: Marker,
+    f: Marker,
+    u: Marker,
 }
 
-// The five commands of a round; true when one of them set a mark.
-fn round(
-    words: &[u32],
-    set: u32,
-    t: &mut [u8; 1024],
-    f: &mut [u8; 1024],
-    u: &mut [u8; 1024],
-) -> bool {
-    let old_t = *t;
-    let first = command(words, set, 0, false, &old_t, t);
-    let old_u = *u;
-    let second = command(words, set, 0, true, &old_u, u);
-    let old_f = *f;
-    let third = command(words, set, 0, false, &old_f, f);
-    let new_u = *u;
-    let fourth = command(words, set, 1, true, &new_u, f);
-    let fifth = command(words, set, 1, false, &new_u, f);
-    first | second | third | fourth | fifth
-}
-
-// Rounds until one sets nothing, at most `budget` of them.
-fn run_rounds(
-    words: &[u32],
-    set: u32,
-    budget: u32,
-    t: &mut [u8; 1024],
-    f: &mut [u8; 1024],
-    u: &mut [u8; 1024],
-) -> Reply {
-    let mut count: u32 = 0;
-    while count < budget {
-        count += 1;
-        if !round(words, set, t, f, u) {
-            return given(0, count, 0);
+impl Markers {
+    // T and U stand on the node x alone, and F nowhere.
+    pub fn from(x: u32) -> Markers {
+        let mut only: Marker = [0; 1024];
+        add_bits(&mut only, x as usize, 1);
+        Markers {
+            t: only,
+            f: [0; 1024],
+            u: only,
         }
     }
-    given(6, budget, 0)
-}
 
-// A node's byte: 1 for T, 2 for F, 4 for U.
-fn packed(t: u8, f: u8, u: u8) -> u8 {
-    t % 2 + f % 2 * 2 + u % 2 * 4
-}
-
-// The first `n` nodes' marks, packed into bytes.
-fn pack(n: usize, t: &[u8; 1024], f: &[u8; 1024], u: &[u8; 1024], marks: &mut [u8]) {
-    let mut v = 0;
-    while v < n {
-        put_byte(
-            marks,
-            v,
-            packed(byte_at(t, v), byte_at(f, v), byte_at(u, v)),
-        );
-        v += 1;
+    // The five commands of a round; true when one of them set a mark.
+    fn round(&mut self, net: Net) -> bool {
+        let old = self.t;
+        let first = command(net, Sign::Is, Way::Up, &old, &mut self.t);
+        let old = self.u;
+        let second = command(net, Sign::Is, Way::Down, &old, &mut self.u);
+        let old = self.f;
+        let third = command(net, Sign::Is, Way::Up, &old, &mut self.f);
+        let fourth = command(net, Sign::IsNot, Way::Down, &self.u, &mut self.f);
+        let fifth = command(net, Sign::IsNot, Way::Up, &self.u, &mut self.f);
+        first | second | third | fourth | fifth
     }
-}
 
-// A marker that stands nowhere.
-fn nowhere() -> [u8; 1024] {
-    [0u8; 1024]
-}
-
-// A marker that stands on one node.
-fn only_at(v: usize) -> [u8; 1024] {
-    let mut marker = [0u8; 1024];
-    if v < 1024 {
-        marker[v] = 1;
+    // Rounds until one sets nothing, at most `budget` of them: their number, or number 6 where none of them set nothing.
+    pub fn run(&mut self, net: Net, budget: u32) -> Result<u32, Refusal> {
+        for before in 0..budget {
+            if !self.round(net) {
+                return Ok(before + 1);
+            }
+        }
+        Err(Refusal::Budget { count: budget })
     }
-    marker
+
+    // A node's byte: 1 for T, 2 for F, 4 for U.
+    fn byte_of(&self, v: usize) -> u8 {
+        let t = item_at(&self.t, v, 0) % 2;
+        let f = item_at(&self.f, v, 0) % 2;
+        let u = item_at(&self.u, v, 0) % 2;
+        t + f * 2 + u * 4
+    }
+
+    // The bytes of the first nodes, one for each mark.
+    pub fn pack(&self, marks: &mut [u8]) {
+        for (v, mark) in marks.iter_mut().enumerate() {
+            *mark = self.byte_of(v);
+        }
+    }
 }
 
 // 3N − 1, the rounds within which every scan of a legal net ends.
-pub fn whole_budget(o: u32, k: u32) -> u32 {
-    let n = node_count(o, k);
-    if n == 0 {
-        return 0;
+pub fn whole_budget(nodes: Nodes) -> u32 {
+    narrow((3 * nodes.count()).saturating_sub(1))
+}
+
+// The scan of a legal net from the node x, with a mark for each node: how many rounds it took.
+pub fn scan_marks(net: Net, x: u32, budget: u32, marks: &mut [u8]) -> Result<u32, Refusal> {
+    let mut markers = Markers::from(x);
+    let count = markers.run(net, budget);
+    markers.pack(marks);
+    count
+}
+
+// The scan from the node `start`.
+pub fn scan(net: Net, start: u32, budget: u32, marks: &mut [u8]) -> Result<Reply, Refusal> {
+    net.check()?;
+    if !net.nodes.is_node(start) {
+        return Err(Refusal::Asked);
     }
-    narrow(3 * n - 1)
+    let marks = net.nodes.marks(marks)?;
+    let count = scan_marks(net, start, budget, marks)?;
+    Ok(given(count, 0))
 }
 
-// The rounds of the scan of a legal net from the node x, its marks left aside.
-pub fn scan_count(words: &[u32], set: u32, x: usize, budget: u32) -> Reply {
-    let mut t = only_at(x);
-    let mut f = nowhere();
-    let mut u = only_at(x);
-    run_rounds(words, set, budget, &mut t, &mut f, &mut u)
-}
-
-// The scan of a legal net from the node x.
-pub fn scan_marks(
-    n: usize,
-    words: &[u32],
-    set: u32,
-    x: usize,
-    budget: u32,
-    marks: &mut [u8],
-) -> Reply {
-    let mut t = only_at(x);
-    let mut f = nowhere();
-    let mut u = only_at(x);
-    let reply = run_rounds(words, set, budget, &mut t, &mut f, &mut u);
-    pack(n, &t, &f, &u, marks);
-    reply
+// The question (x, y): the word is read off the table, the marks and the count are those of the scan from x.
+pub fn question(net: Net, x: u32, y: u32, marks: &mut [u8]) -> Result<Reply, Refusal> {
+    let asked = net.statement(x, y, 0)?;
+    let marks = net.nodes.marks(marks)?;
+    let mut room = [0; CELLS];
+    let support = Table::of(net, &mut room);
+    let count = scan_marks(net, asked.x, whole_budget(net.nodes), marks)?;
+    Ok(given(support.answer(asked.x, asked.y), count))
 }

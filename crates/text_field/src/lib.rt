@@ -15,13 +15,10 @@ pub fn put_bytes(text: &mut [u8], field: &[u8], after: u8) -> usize
     requires { length field.now + 1 ≤ length text.old }
     ensures { Wrote (field.now ++ (after ∷ [])) text.old text.new result }
 {
-    let mut i: usize = 0;
-    while i < field.len() {
-        text[i] = field[i];
-        i += 1;
-    }
-    text[i] = after;
-    i + 1
+    let size = field.len();
+    text[..size].copy_from_slice(field);
+    text[size] = after;
+    size + 1
 }
 
 // The decimal digits of `n`, at the end of `digits`. Gives where they start.
@@ -29,15 +26,15 @@ fn spell(digits: &mut [u8], n: u32) -> usize
     requires { 10 ≡ length digits.old }
     ensures { (drop result digits.new ≡ decimal n) × (result < 10) }
 {
-    let mut at: usize = 9;
     let mut rest = n;
-    digits[9] = 48 + (rest % 10) as u8;
-    while rest >= 10 {
-        rest /= 10;
-        at -= 1;
+    for at in (0..10).rev() {
         digits[at] = 48 + (rest % 10) as u8;
+        rest /= 10;
+        if rest == 0 {
+            return at;
+        }
     }
-    at
+    0
 }
 
 // A number in decimal, with the byte after it. Gives how many bytes that is.

@@ -5,33 +5,35 @@ ghost use Rattle.std.specs.Prelude.{◌≡◌, ◌≤◌};
 ghost use Rattle.theory.specs.Origins.{chosen, InsideFrom};
 ghost use Rattle.net.specs.Clauses.{call};
 ghost use Rattle.unit_program.specs.Merged.{merged};
+ghost use Rattle.unit.specs.declared.UnitError.TheVariants.{Refused};
 ghost use Rattle.unit.specs.Table.{told_place, unit_outcome, unit_clauses, unit_done, simulated};
 
-use net::{Checked, Refusal, check_net};
+use net::{Refusal, check_net};
 use unit_fault::first_fault;
 use unit_run::run_program;
 
-// What a run of the unit answers: the commands run, where the program ended or where its budget was spent before (number 6); the place of the first
-// command at fault (number 16); or a refusal.
-#[derive(Drop)]
-pub enum Simulated {
-    Done(u32),
+// Why a run of the unit has no result: its budget of commands, which is told, was spent before the program ended (number 6); the command at the place
+// that is told is the first at fault (number 16); or a refusal.
+#[derive(Clone, Copy)]
+pub enum UnitError {
     Spent(u32),
     Faulty(u32),
     Refused(Refusal),
 }
 
-// The largest place that a reply can tell.
-const PLACE_LIMIT: usize = 4294967295;
+impl From<Refusal> for UnitError {
+    ghost from_gives = { λ refusal e. e ≡ Refused refusal };
 
-// A place as a reply tells it.
+    fn from(refusal: Refusal) -> UnitError {
+        UnitError::Refused(refusal)
+    }
+}
+
+// A place as a reply tells it: the largest number that it can hold for any larger place.
 fn told_place(place: usize) -> u32
     ensures { result ≡ told_place place }
 {
-    if place <= PLACE_LIMIT {
-        return place as u32;
-    }
-    PLACE_LIMIT as u32
+    u32::try_from(place).unwrap_or(u32::MAX)
 }
 
 // Numbers 5, 16, 6 and 0, on a net of `n` nodes that was checked.
@@ -42,28 +44,28 @@ fn run_net(
     program: &[u32],
     budget: u32,
     marks: &mut [u8],
-) -> Simulated
+) -> Result<u32, UnitError>
     requires inside { InsideFrom n words.now }
     requires few { n ≤ 1024 }
     ensures { unit_outcome result marks.new ≡ call (unit_clauses (chosen set words.now) program.now budget marks.old n) (unit_done (chosen set words.now) program.now budget marks.old n) }
 {
     if marks.len() < n {
-        return Simulated::Refused(Refusal::ShortBuffer);
+        return Err(UnitError::Refused(Refusal::ShortBuffer));
     }
     let place = first_fault(n, program);
     if place < program.len() {
-        return Simulated::Faulty(told_place(place));
+        return Err(UnitError::Faulty(told_place(place)));
     }
     let stood = run_program(n, words, set, program, budget, &mut marks[..n]);
     let count = budget - stood.left;
-    let runs = stood.runs;
-    if runs {
-        return Simulated::Done(count);
+    if stood.runs {
+        Ok(count)
+    } else {
+        Err(UnitError::Spent(count))
     }
-    Simulated::Spent(count)
 }
 
-// A program of the marker unit, run on the links that a set of origins chooses within `budget` commands.
+// A program of the marker unit, run on the links that a set of origins chooses within `budget` commands: how many were run.
 pub fn run_unit(
     o: u32,
     k: u32,
@@ -72,14 +74,11 @@ pub fn run_unit(
     program: &[u32],
     budget: u32,
     marks: &mut [u8],
-) -> Simulated
+) -> Result<u32, UnitError>
     ensures { unit_outcome result marks.new ≡ simulated o k words.now set program.now budget marks.old }
 {
-    let net = check_net(o, k, words, set);
-    match net {
-        Checked::Refused(refusal) => Simulated::Refused(refusal),
-        Checked::Nodes(n) => run_net(n, words, set, program, budget, marks),
-    }
+    let n = check_net(o, k, words, set)?;
+    run_net(n, words, set, program, budget, marks)
 }
 
 // The program that is written for the merged scan from `node`: it is found at fault where `node` is none.

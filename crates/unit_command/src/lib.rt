@@ -1,16 +1,14 @@
 // One command of the marker unit: how its word is read, and what it does to the marks.
 #![tactic(auto)]
 
-ghost use Rattle.std.specs.Prelude.{◌≡◌, not, map, ◌-◌, ◌<◌, ◌≤◌, length};
+ghost use Rattle.std.specs.Prelude.{◌≡◌, map, ◌-◌, ◌≤◌, length};
 ghost use Rattle.std.specs.Int.Bits.{bit_and};
-ghost use Rattle.theory.specs.Marks.{mark};
-ghost use Rattle.theory.specs.Scans.{same};
 ghost use Rattle.theory.specs.Origins.{chosen, InsideFrom};
 ghost use Rattle.unit_program.specs.Programs.{clear_of, set_of, link_of, decode};
 ghost use Rattle.unit_program.specs.Runs.{does, sets};
 
 use theory::Command;
-use unit_link::run_link;
+use unit_link::{put_mark, run_link};
 use unit_program::Instruction;
 
 // The words of a loop and of its end.
@@ -98,26 +96,9 @@ fn clear_markers(markers: u8, marks: &mut [u8])
     ensures { marks.new ≡ map (λ b. bit_and b (255 - markers)) marks.old }
 {
     let keep = 255 - markers;
-    let mut i = 0;
-    while i < marks.len() {
-        marks[i] = marks[i] & keep;
-        i += 1;
+    for mark in marks {
+        *mark &= keep;
     }
-}
-
-// A marker set at a node; whether it is new there.
-fn set_marker(marker: u8, node: usize, marks: &mut [u8]) -> bool
-    requires { (marker < 8) × (node < length marks.old) }
-    ensures put { marks.new ≡ mark marker node marks.old }
-    ensures new { result ≡ not (same marks.old (mark marker node marks.old)) }
-{
-    let byte = marks[node];
-    let with = byte | (1 << marker);
-    if with == byte {
-        return false;
-    }
-    marks[node] = with;
-    true
 }
 
 // One command; whether it set something new.
@@ -134,7 +115,7 @@ pub fn obey(n: usize, words: &[u32], set: u32, word: u32, marks: &mut [u8]) -> b
             clear_markers(markers, marks);
             false
         }
-        Instruction::Set(marker, node) => set_marker(marker, node, marks),
+        Instruction::Set(marker, node) => put_mark(marker, node, marks),
         Instruction::Link(c) => run_link(set, c, n, words, marks),
         Instruction::Loop => false,
         Instruction::End => false,

@@ -39,25 +39,21 @@ pub loop_faulty : (n : ℕ) (inside : Bool) (ws : List ℕ) {d i : Instruction} 
 loop_faulty n inside ws f g h =
     ap (λ (j : ℕ). inside || leb (length ws) j) h ∙ ap (λ (q : Bool). inside || q) (ends_before n ws) ∙ told (faulty inside (ends n ws)) f g
 
--- The first end, for a loop that has come to place i.
-module _ (n : ℕ) (ws : List ℕ) (i : ℕ) {r : Bool} where
-  pub end_stop : i < length ws → r ≡ is_end (decode n (get_or ws i 0)) → r ≡ true → i + before_end n (drop i ws) ≡ i
-  unfolding before_end
-  end_stop h e f =
-      let t : is_end (decode n (get_or ws i 0)) ≡ true = sym e ∙ f in
-      rw (drop-cons ws i 0 h, t) (omega arith)
-
-  pub end_go : i < length ws → r ≡ is_end (decode n (get_or ws i 0)) → r ≡ false → i + before_end n (drop i ws) ≡ (i + 1) + before_end n (drop (i + 1) ws)
-  unfolding before_end
-  end_go h e f =
-      let t : is_end (decode n (get_or ws i 0)) ≡ false = sym e ∙ f in
-      rw (drop-cons ws i 0 h, t, add-one i) (omega arith)
-
-pub end_end : (n : ℕ) (ws : List ℕ) (i : ℕ) → length ws ≤ i → i + before_end n (drop i ws) ≡ i
+-- No command, an end, and another command before others.
+pub none_before : (n : ℕ) → before_end n [] ≡ 0
 unfolding before_end
-end_end n ws i h = rw (drop_of_length-le ws h) (omega arith)
+none_before n = refl
 
--- The first fault, likewise.
+module _ (n w : ℕ) (ws : List ℕ) where
+  pub end_first : true ≡ is_end (decode n w) → before_end n (w ∷ ws) ≡ 0
+  unfolding before_end
+  end_first e = rw (sym e)
+
+  pub end_later : false ≡ is_end (decode n w) → before_end n (w ∷ ws) ≡ before_end n ws + 1
+  unfolding before_end
+  end_later e = rw (sym e, add-one (before_end n ws))
+
+-- The first fault, for a loop that has come to place i.
 module _ (n : ℕ) (inside : Bool) (ws : List ℕ) (i : ℕ) {r : Bool} where
   pub fault_stop : i < length ws → r ≡ faulty inside (ends n (drop (i + 1) ws)) (decode n (get_or ws i 0)) → r ≡ true → i + sound_prefix n inside (drop i ws) ≡ i
   unfolding sound_prefix

@@ -12,29 +12,17 @@ use unit_program::Instruction;
 fn is_end(n: usize, word: u32) -> bool
     ensures { result ≡ is_end (decode n word) }
 {
-    let command = read_word(n, word);
-    match command {
-        Instruction::Clear(_) => false,
-        Instruction::Set(_, _) => false,
-        Instruction::Link(_) => false,
-        Instruction::Loop => false,
-        Instruction::End => true,
-        Instruction::Unknown => false,
-    }
+    matches!(read_word(n, word), Instruction::End)
 }
 
-// How many commands stand before the first end.
+// How many commands stand before the first end. A number and no `Option`, since the clause names `before_end`.
 pub fn before_end(n: usize, program: &[u32]) -> usize
     ensures { result ≡ before_end n program.now }
 {
-    let mut i = 0;
-    while i < program.len() {
-        if is_end(n, program[i]) {
-            return i;
-        }
-        i += 1;
-    }
-    i
+    program
+        .iter()
+        .position(|&word| is_end(n, word))
+        .unwrap_or(program.len())
 }
 
 // Whether a command is at fault, by whether it stands inside a loop and by what comes after it.
@@ -67,20 +55,16 @@ fn stays_within(n: usize, inside: bool, word: u32) -> bool
     }
 }
 
-// The place of the first command at fault; the length of the program where there is none.
+// The place of the first command at fault; the length of the program where there is none. A number and no `Option`, since the clause names `first_fault`.
 pub fn first_fault(n: usize, program: &[u32]) -> usize
     ensures { result ≡ first_fault n program.now }
 {
     let mut inside = false;
-    let mut i = 0;
-    while i < program.len() {
-        let word = program[i];
-        let next = i + 1;
-        if is_faulty(n, inside, word, &program[next..]) {
+    for (i, &word) in program.iter().enumerate() {
+        if is_faulty(n, inside, word, &program[i + 1..]) {
             return i;
         }
         inside = stays_within(n, inside, word);
-        i = next;
     }
-    i
+    program.len()
 }

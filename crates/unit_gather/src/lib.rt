@@ -42,11 +42,7 @@ fn near_of(at_head: bool, word: u32) -> usize
 pub fn far_of(at_head: bool, word: u32) -> usize
     ensures { result ≡ far at_head word }
 {
-    if at_head {
-        tail_of(word)
-    } else {
-        head_of(word)
-    }
+    near_of(!at_head, word)
 }
 
 // Whether the set of origins chooses a word and it fires under a command.
@@ -86,7 +82,7 @@ fn gather_one(set: u32, c: Command, n: usize, word: u32, marks: &[u8], aside: &m
     let plain = plain_of(word);
     let far = far_of(at_head, plain);
     let place = far / 8;
-    aside[place] = aside[place] | bit_of((far % 8) as u8);
+    aside[place] |= bit_of((far % 8) as u8);
 }
 
 // The far ends of all chosen links that fire.
@@ -98,9 +94,7 @@ pub fn gather_nodes(set: u32, c: Command, n: usize, words: &[u32], marks: &[u8],
     requires size { length aside.old ≡ 128 }
     ensures { aside.new ≡ gather c marks.now (chosen set words.now) aside.old }
 {
-    let mut i = 0;
-    while i < words.len() {
-        gather_one(set, Command { ..c }, n, words[i], marks, aside);
-        i += 1;
+    for &word in words {
+        gather_one(set, Command { ..c }, n, word, marks, aside);
     }
 }

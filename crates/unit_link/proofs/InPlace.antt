@@ -1,13 +1,12 @@
 -- Where the marker tested and the marker put differ, nothing that a command puts is tested: in place it does what it does against the marks at its beginning.
-use Prim.Native.Nat.{ℕ, ◌+◌, ◌^◌, ◌≤◌, ◌<◌}
+use Prim.Native.Nat.{ℕ, ◌+◌, ◌≤◌, ◌<◌}
 use mathlib.Core.Path.{◌≡◌, refl, sym, ap, ◌∙◌}
 use mathlib.Core.Bool.{Bool, true, false, cond, ◌&&◌, ◌||◌}
 use mathlib.Core.List.{List, [], ◌∷◌}
 use native.Mathlib.Omega.{arith}
 use borrow.Author.Tests.{ne_eqb}
-use lib.Bits.{bit_or}
 use lib.Dec.{eqb}
-use lib.ListN.{length, get_or, set, drop}
+use lib.ListN.{length, get_or, drop}
 use Rattle.theory_laws.proofs.Booleans.{or_false}
 use Rattle.theory.specs.Words.{parity}
 use Rattle.theory.specs.Marks.{has, mark, near, far, fires, link, links, command}
@@ -17,7 +16,6 @@ use Rattle.theory.specs.Origins.{plain_of, chooses, chosen}
 use Rattle.theory.specs.declared.Command.{Command}
 use Rattle.theory.proofs.Inside.{far_in, inside_first, inside_rest}
 use Rattle.theory.proofs.machine.Commands.{hits, link_at, link_length}
-use Rattle.theory.proofs.machine.Growth.{mark_had, mark_more}
 use Rattle.theory.proofs.origins.Folds.{run, picking, fold_go, fold_end}
 use Rattle.unit_gather.specs.Aside.{fires_on}
 use Rattle.unit_gather.proofs.Gathering.{picked}
@@ -76,17 +74,8 @@ module _ (origins : ℕ) (c : Command) (w : ℕ) (m : List ℕ) where
     pub here_not : r ≡ false → (m ≡ picking origins (link_here c) w m) × Set false m m
     here_not f = (sym (fired ∙ rw f), kept)
 
-    module _ (f : r ≡ true) {p to : ℕ} (i : p ≡ plain_of w) (l : to ≡ far c.at_head p) {q : Bool} (g : q ≡ has c.put (get_or m to 0)) where
-      marked : mark c.put to m ≡ picking origins (link_here c) w m
-      marked = ap (λ (v : ℕ). mark c.put v m) (l ∙ ap (far c.at_head) i) ∙ sym (fired ∙ rw f)
-
-      pub here_had : q ≡ true → (m ≡ picking origins (link_here c) w m) × Set false m m
-      here_had e = (sym (mark_had c.put to m (sym g ∙ e)) ∙ marked, kept)
-
-      pub here_new : {x : ℕ} → x ≡ 2 ^ c.put → q ≡ false → to < length m
-          → (set m to (bit_or (get_or m to 0) x) ≡ picking origins (link_here c) w m) × Set true m (set m to (bit_or (get_or m to 0) x))
-      unfolding mark
-      here_new b e k = (rw b marked, rw b (mark_more c.put to m k (sym g ∙ e)))
+    pub here_put : r ≡ true → {p to : ℕ} → p ≡ plain_of w → to ≡ far c.at_head p → {m' : List ℕ} → m' ≡ mark c.put to m → m' ≡ picking origins (link_here c) w m
+    here_put f i l e = e ∙ ap (λ (v : ℕ). mark c.put v m) (l ∙ ap (far c.at_head) i) ∙ sym (fired ∙ rw f)
 
 -- ── a loop that has come to word i ──
 in_place_run : (c : Command) (ws m : List ℕ) → in_place c ws m ≡ run (link_here c) ws m

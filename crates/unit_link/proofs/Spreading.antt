@@ -15,22 +15,22 @@ use Rattle.theory.proofs.machine.Growth.{mark_had, mark_more}
 use Rattle.unit_gather.specs.Aside.{holds, gather, spread}
 use Rattle.unit_gather.proofs.Kept.{aside_command}
 
+-- A marker put at node v, where the code's test whether it stands there said q.
+module _ (k v : ℕ) (m : List ℕ) {q : Bool} (g : q ≡ has k (get_or m v 0)) where
+  pub put_had : q ≡ true → (m ≡ mark k v m) × Set false m m
+  put_had p = (sym (mark_had k v m (sym g ∙ p)), kept)
+
+  pub put_new : {x : ℕ} → x ≡ 2 ^ k → q ≡ false → v < length m → (set m v (bit_or (get_or m v 0) x) ≡ mark k v m) × Set true m (set m v (bit_or (get_or m v 0) x))
+  unfolding mark
+  put_new b p l = (rw b, rw b (mark_more k v m l (sym g ∙ p)))
+
 -- One node v: the code's test whether it is kept aside said r.
 module _ (k v : ℕ) (a m : List ℕ) {r : Bool} (h : r ≡ holds a v) where
   pub held_not : r ≡ false → (m ≡ cond (holds a v) (mark k v m) m) × Set false m m
   held_not f = (rw (sym h ∙ f), kept)
 
-  module _ (f : r ≡ true) {q : Bool} (g : q ≡ has k (get_or m v 0)) where
-    fired : mark k v m ≡ cond (holds a v) (mark k v m) m
-    fired = rw (sym h ∙ f)
-
-    pub held_had : q ≡ true → (m ≡ cond (holds a v) (mark k v m) m) × Set false m m
-    held_had p = (sym (mark_had k v m (sym g ∙ p)) ∙ fired, kept)
-
-    pub held_new : {x : ℕ} → x ≡ 2 ^ k → q ≡ false → v < length m
-        → (set m v (bit_or (get_or m v 0) x) ≡ cond (holds a v) (mark k v m) m) × Set true m (set m v (bit_or (get_or m v 0) x))
-    unfolding mark
-    held_new b p l = (rw (b, sym h ∙ f), rw b (mark_more k v m l (sym g ∙ p)))
+  pub held_put : r ≡ true → {m' : List ℕ} → m' ≡ mark k v m → m' ≡ cond (holds a v) (mark k v m) m
+  held_put f e = e ∙ rw (sym h ∙ f)
 
 -- A loop that has come to node v of n.
 module _ (k : ℕ) (a : List ℕ) (v n : ℕ) (m : List ℕ) where

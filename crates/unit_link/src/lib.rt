@@ -15,6 +15,20 @@ use net_word::plain_of;
 use theory::Command;
 use unit_gather::{bit_of, far_of, fires_on, gather_nodes, has_bit};
 
+// A marker put at a node; whether it is new there.
+pub fn put_mark(put: u8, v: usize, marks: &mut [u8]) -> bool
+    requires { (put < 8) × (v < length marks.old) }
+    ensures done { marks.new ≡ mark put v marks.old }
+    ensures new { Set result marks.old marks.new }
+{
+    let byte = marks[v];
+    if has_bit(byte, put) {
+        return false;
+    }
+    marks[v] = byte | bit_of(put);
+    true
+}
+
 // A marker at a node that is kept aside; whether it is new there.
 fn put_held(put: u8, v: usize, aside: &[u8], marks: &mut [u8]) -> bool
     requires { (put < 8) × (v < 1024) × (length aside.now ≡ 128) × (v < length marks.old) }
@@ -25,12 +39,7 @@ fn put_held(put: u8, v: usize, aside: &[u8], marks: &mut [u8]) -> bool
     if !has_bit(aside[place], (v % 8) as u8) {
         return false;
     }
-    let byte = marks[v];
-    if has_bit(byte, put) {
-        return false;
-    }
-    marks[v] = byte | bit_of(put);
-    true
+    put_mark(put, v, marks)
 }
 
 // The marker at all nodes that are kept aside; whether one of them is new.
@@ -40,10 +49,8 @@ fn spread_marks(put: u8, n: usize, aside: &[u8], marks: &mut [u8]) -> bool
     ensures new { Set result marks.old marks.new }
 {
     let mut changed = false;
-    let mut v = 0;
-    while v < n {
-        changed = changed | put_held(put, v, aside, marks);
-        v += 1;
+    for v in 0..n {
+        changed |= put_held(put, v, aside, marks);
     }
     changed
 }
@@ -63,12 +70,7 @@ fn link_here(set: u32, c: Command, n: usize, word: u32, marks: &mut [u8]) -> boo
     }
     let plain = plain_of(word);
     let far = far_of(at_head, plain);
-    let byte = marks[far];
-    if has_bit(byte, put) {
-        return false;
-    }
-    marks[far] = byte | bit_of(put);
-    true
+    put_mark(put, far, marks)
 }
 
 // All chosen links in turn, each tested against the marks as they are by then; whether one of them set a mark.
@@ -80,10 +82,8 @@ fn run_in_place(set: u32, c: Command, n: usize, words: &[u32], marks: &mut [u8])
     ensures new { Set result marks.old marks.new }
 {
     let mut changed = false;
-    let mut i = 0;
-    while i < words.len() {
-        changed = changed | link_here(set, Command { ..c }, n, words[i], marks);
-        i += 1;
+    for &word in words {
+        changed |= link_here(set, Command { ..c }, n, word, marks);
     }
     changed
 }

@@ -6,8 +6,8 @@ use mathlib.Core.List.{List, [], ◌∷◌, map}
 use native.Mathlib.Omega.{arith}
 use borrow.Author.Tests.{eqb-true}
 use lib.Dec.{eqb, ltb, leb}
-use lib.ListN.{length, get_or, take, drop, length-drop, drop_of_length-le}
-use lib.Seq.{take_all, drop-drop}
+use lib.ListN.{length, get_or, take, drop}
+use lib.Seq.{take_all}
 use Rattle.theory_laws.proofs.Booleans.{contradiction}
 use Rattle.unit_program.specs.declared.Instruction.{Instruction}
 use Rattle.unit_program.specs.declared.Instruction.TheVariants as instruction
@@ -15,7 +15,6 @@ use Rattle.unit_program.specs.Programs.{op_of, rest_of, clear_of, set_of, link_o
 use Rattle.unit_program.specs.Faults.{is_loop, before_end, Sound}
 use Rattle.unit_program.specs.Runs.{does, sets, Stand, stand, pass, passes, onward, run_items}
 use Rattle.unit_program.proofs.Parsing.{plain_first, loop_first}
-use Rattle.unit_fault.proofs.Faults.{rest_all}
 
 -- One word is a loop, and no other.
 loop_word_lem : (n w : ℕ) → w ≡ 50331648 → decode n w ≡ instruction.Loop
@@ -98,29 +97,8 @@ module _ (n : ℕ) (ws : List ℕ) (budget : ℕ) (m : List ℕ) where
       let b : e ≡ before_end n ps = f ∙ ap (before_end n) a in
       omega (arith, b, t.short)
 
--- ── a program that has come to place i, and what the code was told of the item there ──
-module _ (n : ℕ) (ws ps : List ℕ) (i left : ℕ) (m : List ℕ) (s : Stand) (places : ℕ) (t : Told n ws (take (length ps - i) (drop i ps)) left m s places) where
-  there : Told n ws (drop i ps) left m s places
-  there = subst (λ (q : List ℕ). Told n ws q left m s places) (rest_all ps i) t
-
-  after : drop places (drop i ps) ≡ drop (i + places) ps
-  after = drop-drop places i ps
-
-  pub program_spent : s.runs ≡ false → s ≡ run_items ws (items n (drop i ps)) left m
-  program_spent h = sym (there.0 ∙ ap (λ (q : Bool). cond q (run_items ws (items n (drop places (drop i ps))) s.left s.marks) s) h)
-
-  pub program_go : s.runs ≡ true → run_items ws (items n (drop i ps)) left m ≡ run_items ws (items n (drop (i + places) ps)) s.left s.marks
-  program_go h =
-      there.0
-      ∙ ap (λ (q : Bool). cond q (run_items ws (items n (drop places (drop i ps))) s.left s.marks) s) h
-      ∙ ap (λ (q : List ℕ). run_items ws (items n q) s.left s.marks) after
-
-  pub program_sound : Sound n false (drop (i + places) ps)
-  program_sound = subst (Sound n false) after there.1.2
-
-  pub program_inside : i ≤ length ps → (i < i + places) × (i + places ≤ length ps)
-  program_inside h = let a = there.1.0 in let b = there.1.1 in let c = length-drop i ps in (omega arith, omega arith)
-
-pub program_end : (n : ℕ) (ws ps : List ℕ) (i left : ℕ) (m : List ℕ) → length ps ≤ i → stand true left false m ≡ run_items ws (items n (drop i ps)) left m
+-- ── nothing is left of a program ──
+pub program_end : (n : ℕ) (ws ps : List ℕ) (left : ℕ) (m : List ℕ) → length ps ≡ 0 → stand true left false m ≡ run_items ws (items n ps) left m
 unfolding run_items parts
-program_end n ws ps i left m h = rw (drop_of_length-le ps h)
+program_end n ws [] left m h = refl
+program_end n ws (p ∷ ps) left m h = absurd (omega arith)

@@ -10,13 +10,13 @@ ghost use Rattle.unit_program.specs.Runs.{stand, pass, passes, onward, run_items
 use unit_command::{LOOP, obey};
 use unit_fault::before_end;
 
-// Where a run stands, besides its marks: whether it still runs, the commands left, whether something new was set, and the places of the program taken.
-#[derive(Drop)]
+// Where a run stands, besides its marks: whether it still runs, the commands left, and whether something new was set. These are the fields of `Stand`
+// in unit_program, by which `pass` and `run_items` say what a run does.
+#[derive(Clone, Copy)]
 pub struct Stood {
     pub runs: bool,
     pub left: u32,
     pub fresh: bool,
-    pub places: usize,
 }
 
 // A pass over plain commands.
@@ -35,25 +35,21 @@ fn run_pass(
 {
     let mut left = budget;
     let mut fresh = false;
-    let mut i = 0;
-    while i < program.len() {
+    for &word in program {
         if left == 0 {
             return Stood {
                 runs: false,
                 left: 0,
-                fresh: fresh,
-                places: 0,
+                fresh,
             };
         }
-        fresh = fresh | obey(n, words, set, program[i], marks);
+        fresh |= obey(n, words, set, word, marks);
         left -= 1;
-        i += 1;
     }
     Stood {
         runs: true,
-        left: left,
-        fresh: fresh,
-        places: 0,
+        left,
+        fresh,
     }
 }
 
@@ -72,6 +68,7 @@ fn run_loop(
     ensures { stand result.runs result.left result.fresh marks.new ≡ passes (chosen set words.now) (map (decode n) program.now) (suc budget) budget marks.old }
 {
     let mut left = budget;
+    // No `for`: it ends with a pass that sets nothing new, and what a pass costs of the budget is told by the pass.
     loop {
         let stood = run_pass(n, words, set, program, left, marks);
         let runs = stood.runs;
@@ -94,43 +91,36 @@ fn run_item(
     program: &[u32],
     budget: u32,
     marks: &mut [u8],
-) -> Stood
+) -> (Stood, usize)
     requires inside { InsideFrom n words.now }
     requires few { n ≤ 1024 }
     requires size { length marks.old ≡ n }
     requires sound { Sound n false program.now }
     requires some { 0 < length program.now }
-    ensures item { run_items (chosen set words.now) (items n program.now) budget marks.old ≡ onward (stand result.runs result.left result.fresh marks.new) (λ l m. run_items (chosen set words.now) (items n (drop result.places program.now)) l m) }
-    ensures rest { (0 < result.places) × (result.places ≤ length program.now) × Sound n false (drop result.places program.now) }
+    ensures item { run_items (chosen set words.now) (items n program.now) budget marks.old ≡ onward (stand result.0.runs result.0.left result.0.fresh marks.new) (λ l m. run_items (chosen set words.now) (items n (drop result.1 program.now)) l m) }
+    ensures rest { (0 < result.1) × (result.1 ≤ length program.now) × Sound n false (drop result.1 program.now) }
 {
     if program[0] == LOOP {
         let size = before_end(n, &program[1..]);
         let end = size + 1;
         let stood = run_loop(n, words, set, &program[1..end], budget, marks);
-        let places = end + 1;
-        return Stood {
-            runs: stood.runs,
-            left: stood.left,
-            fresh: stood.fresh,
-            places: places,
-        };
+        return (stood, end + 1);
     }
     if budget == 0 {
-        return Stood {
+        let stood = Stood {
             runs: false,
             left: 0,
             fresh: false,
-            places: 1,
         };
+        return (stood, 1);
     }
     let fresh = obey(n, words, set, program[0], marks);
-    let left = budget - 1;
-    Stood {
+    let stood = Stood {
         runs: true,
-        left: left,
-        fresh: fresh,
-        places: 1,
-    }
+        left: budget - 1,
+        fresh,
+    };
+    (stood, 1)
 }
 
 // A program without a fault, within a budget of commands.
@@ -149,21 +139,19 @@ pub fn run_program(
     ensures { stand result.runs result.left result.fresh marks.new ≡ run_items (chosen set words.now) (items n program.now) budget marks.old }
 {
     let mut left = budget;
-    let mut i = 0;
-    while i < program.len() {
-        let stood = run_item(n, words, set, &program[i..], left, marks);
-        let runs = stood.runs;
-        if !runs {
+    let mut rest = program;
+    // No `for`: an item is a command or a whole loop, and its length is told by its run.
+    while !rest.is_empty() {
+        let (stood, places) = run_item(n, words, set, rest, left, marks);
+        if !stood.runs {
             return stood;
         }
         left = stood.left;
-        let places = stood.places;
-        i += places;
+        rest = &rest[places..];
     }
     Stood {
         runs: true,
-        left: left,
+        left,
         fresh: false,
-        places: i,
     }
 }

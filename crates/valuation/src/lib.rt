@@ -6,18 +6,26 @@ ghost use Rattle.theory_laws.specs.Over.{over};
 ghost use Rattle.theory.specs.Origins.{chosen, NetFrom};
 ghost use Rattle.valuation.specs.Values.{value_row, own_values};
 ghost use Rattle.valuation.specs.Table.{valuation_outcome, valuation_clauses, valuation_done, filled_by};
+ghost use Rattle.valuation.specs.declared.ValuationError.TheVariants.{Refused};
 ghost use Rattle.net.specs.Clauses.{call};
 
-use net::{Checked, Refusal, check_net};
+use net::{Refusal, check_net};
 use question::{answer_at, answer_number, full_scan};
 use scan_start::clear;
 
-// What a valuation answers: that the table is filled, or is too short (number 13), or a refusal.
-#[derive(Drop)]
-pub enum Filled {
-    Done,
+// Why a table was not filled: it is too short (number 13), or a refusal.
+#[derive(Clone, Copy)]
+pub enum ValuationError {
     ShortTable,
     Refused(Refusal),
+}
+
+impl From<Refusal> for ValuationError {
+    ghost from_gives = { λ refusal e. e ≡ Refused refusal };
+
+    fn from(refusal: Refusal) -> ValuationError {
+        ValuationError::Refused(refusal)
+    }
 }
 
 // The row of the element with these marks, into the front of the table.
@@ -25,12 +33,10 @@ fn put_row(o: usize, n: usize, marks: &[u8], table: &mut [u8])
     requires { (o ≤ n) × (n ≤ length marks.now) × (n - o ≤ length table.old) }
     ensures { table.new ≡ over (value_row marks.now o (n - o)) table.old }
 {
-    let mut y = o;
-    while y < n {
+    for y in o..n {
         let mark = marks[y];
         let byte = answer_number(answer_at(mark));
         table[y - o] = byte;
-        y += 1;
     }
 }
 
@@ -48,12 +54,10 @@ fn put_rows(o: u32, k: u32, n: usize, words: &[u32], set: u32, table: &mut [u8],
     let kinds = k as usize;
     let nodes = n as u32;
     let mut at = 0;
-    let mut x = 0;
-    while x < nodes {
+    for x in 0..nodes {
         full_scan(o, k, n, words, set, x, marks);
         put_row(objects, n, marks, &mut table[at..]);
         at += kinds;
-        x += 1;
     }
 }
 
@@ -66,21 +70,21 @@ fn fill_checked(
     set: u32,
     table: &mut [u8],
     marks: &mut [u8],
-) -> Filled
+) -> Result<(), ValuationError>
     requires net { NetFrom o k words.now }
     requires size { n ≡ o + k }
     ensures { valuation_outcome result table.new marks.new ≡ call (valuation_clauses k table.old marks.old n) (valuation_done (own_values o k (chosen set words.now)) table.old marks.old n) }
 {
     if marks.len() < n {
-        return Filled::Refused(Refusal::ShortBuffer);
+        return Err(ValuationError::Refused(Refusal::ShortBuffer));
     }
     let places = n * k as usize;
     if table.len() < places {
-        return Filled::ShortTable;
+        return Err(ValuationError::ShortTable);
     }
     put_rows(o, k, n, words, set, table, marks);
     clear(n, marks);
-    Filled::Done
+    Ok(())
 }
 
 // The valuation of the words that the set chooses.
@@ -91,12 +95,9 @@ pub fn fill_valuation(
     set: u32,
     table: &mut [u8],
     marks: &mut [u8],
-) -> Filled
+) -> Result<(), ValuationError>
     ensures { valuation_outcome result table.new marks.new ≡ filled_by o k words.now set table.old marks.old }
 {
-    let net = check_net(o, k, words, set);
-    match net {
-        Checked::Refused(refusal) => Filled::Refused(refusal),
-        Checked::Nodes(n) => fill_checked(o, k, n, words, set, table, marks),
-    }
+    let n = check_net(o, k, words, set)?;
+    fill_checked(o, k, n, words, set, table, marks)
 }

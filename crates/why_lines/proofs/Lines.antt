@@ -1,12 +1,12 @@
 -- The text of lines, one line at a time.
-use Prim.Native.Nat.{ℕ, zero, suc, ◌+◌, ◌*◌, ◌/◌, ◌≤◌, ◌<◌}
+use Prim.Native.Nat.{ℕ, zero, suc, ◌+◌, ◌-◌, ◌*◌, ◌/◌, ◌≤◌, ◌<◌}
 use mathlib.Core.Path.{◌≡◌, refl, sym, ap, ◌∙◌}
 use mathlib.Core.Bool.{Bool}
 use mathlib.Core.List.{List, [], ◌∷◌, ◌++◌, append_assoc, append-nil}
 use native.Mathlib.Omega.{arith}
 use native.Mathlib.Numerals.{add-one}
-use lib.ListN.{length, get_or, take}
-use lib.Seq.{take_all}
+use lib.ListN.{length, get_or, take, drop, get_or-append, length-append, length-drop}
+use lib.Seq.{take_all, get_or-drop, drop-drop, drop-append_seam}
 use Rattle.text_field.specs.Writing.{Wrote}
 use Rattle.text_field.proofs.Writing.{rest, rejoined, wrote_more, wrote_as}
 use Rattle.derivation_lines.specs.Lines.{Line, blank}
@@ -43,3 +43,25 @@ module _ (told : Bool) (ws : List ℕ) where
   pub lines_written : (l text : List ℕ) (n : ℕ) {xs : List ℕ} {at : ℕ} → length l / 4 ≤ n → Wrote (lines_text told ws 0 (take n (lines_of l))) text xs at
       → Wrote (lines_text told ws 0 (lines_of l)) text xs at
   lines_written l text n h w = wrote_as (ap (lines_text told ws 0) (take_all n (lines_of l) (omega (arith, lines_length l)))) w
+
+-- Four numbers taken off what stands from line n on are that line's, and the next line's stand behind them.
+module _ (l line more : List ℕ) (n : ℕ) (taken : drop (4 * n) l ≡ line ++ more) (four : length line ≡ 4) where
+  pub line_inside : 4 * n + 4 ≤ length l
+  line_inside =
+      let e : length l - 4 * n ≡ 4 + length more = sym (length-drop (4 * n) l) ∙ ap length taken ∙ simp (length-append, four) in
+      omega arith
+
+  pub next_left : more ≡ drop (4 * (n + 1)) l
+  next_left =
+      let e : more ≡ drop (4 * n + 4) l = rw (← drop-drop 4 (4 * n) l, taken, ← four) (sym (drop-append_seam line more)) in
+      e ∙ ap (λ (j : ℕ). drop j l) (omega arith)
+
+  pub number_there : (j : ℕ) → j < 4 → get_or line j 0 ≡ get_or l (4 * n + j) 0
+  number_there j h = sym (get_or-append line more 0 j (omega arith)) ∙ ap (λ (k : List ℕ). get_or k j 0) (sym taken) ∙ simp get_or-drop
+
+  pub word_there : get_or line 0 0 ≡ get_or l (4 * n) 0
+  word_there = number_there 0 (omega arith) ∙ ap (λ (j : ℕ). get_or l j 0) (omega arith)
+
+-- Where fewer than four are left, no line is.
+pub none_left : (l rest : List ℕ) (n : ℕ) → rest ≡ drop (4 * n) l → length rest < 4 → length l / 4 ≤ n
+none_left l rest n e h = let d : length rest ≡ length l - 4 * n = ap length e ∙ length-drop (4 * n) l in omega arith

@@ -15,16 +15,13 @@ pub fn put_derivation(text: &mut [u8], told: bool, words: &[u32], list: &[u32]) 
     requires lines { Printable list.now }
     ensures { Wrote (lines_text told words.now 0 (lines_of list.now)) text.old text.new result }
 {
-    let count = list.len() / 4;
-    let mut at: usize = 0;
-    let mut n: usize = 0;
-    while n < count {
-        let word = list[4 * n];
-        let rule = list[4 * n + 1];
-        let i = list[4 * n + 2];
-        let j = list[4 * n + 3];
+    let mut at = 0;
+    for (n, line) in list.chunks_exact(4).enumerate() {
+        let word = line[0];
+        let rule = line[1];
+        let i = line[2];
+        let j = line[3];
         at += put_derived(&mut text[at..], told, words, n as u32, word, rule, i, j);
-        n += 1;
     }
     at
 }

@@ -1,4 +1,5 @@
 -- What is printed for a question about an accepted net: the line of `ask`, and below it the lines that derive what the answer says.
+use Rattle.std.specs.Prelude.{Err, Ok}
 use Prim.Native.Nat.{ℕ, ◌+◌, ◌≤◌}
 use mathlib.Core.Path.{◌≡◌, refl, sym, ap, ◌∙◌}
 use mathlib.Core.Bool.{Bool, true, false, cond}
@@ -25,8 +26,7 @@ use Rattle.net.proofs.OnNet.{gone_on}
 use Rattle.question.specs.Table.{QuestionOutcome, answer_at, question_outcome, question_clauses, question_done, questioned}
 use Rattle.question.specs.declared.Answer.{Answer}
 use Rattle.question.specs.declared.Answer.TheVariants.{None, Yes, No, Both}
-use Rattle.question.specs.declared.Asked.{Asked}
-use Rattle.question.specs.declared.Asked.TheVariants as asked
+use Rattle.question.specs.Table.{Asked}
 use Rattle.ask_line.specs.Line.{line_of}
 use Rattle.derivation_lines.specs.Lines.{Line, Derives}
 use Rattle.explain.specs.Table.{explaining}
@@ -51,8 +51,8 @@ module _ (told : Bool) (o k : ℕ) (ws : List ℕ) (set x y : ℕ) where
     pub answer : Answer
     pub count : ℕ
     pub below : List ℕ
-    pub gave : (questioned o k ws set x y (blank 1024)).answer ≡ asked.Done answer count
-    pub text : question_text told o k ws set x y ≡ line_of x y (asked.Done answer count) ++ below
+    pub gave : (questioned o k ws set x y (blank 1024)).answer ≡ Ok (answer, count)
+    pub text : question_text told o k ws set x y ≡ line_of x y (Ok (answer, count)) ++ below
     pub means : Below answer below
 
   module _ (net : NetFrom o k ws) (low : set ≤ set_limit) (pair : GoodPair o (o + k) x y) where
@@ -62,10 +62,10 @@ module _ (told : Bool) (o k : ℕ) (ws : List ℕ) (set x y : ℕ) where
     exactly : (s : Sign) → At (full_marks o k (chosen set ws) x) (marker_of s) y ↔ Supported o k (Links (chosen set ws)) x y s
     exactly s = full_exact o k (chosen set ws) (chosen_net set o k ws net) x y s pair.node (good_kind pair)
 
-    gives : (m : List ℕ) → o + k ≤ length m → (questioned o k ws set x y m).answer ≡ asked.Done (answer_at byte) (full_scan (o + k) (chosen set ws) x).count
+    gives : (m : List ℕ) → o + k ≤ length m → (questioned o k ws set x y m).answer ≡ Ok (answer_at byte, (full_scan (o + k) (chosen set ws) x).count)
     gives m room =
         sym (ap (λ (r : QuestionOutcome). r.answer)
-        (gone_on (λ r. question_outcome (asked.Refused r) m) o k ws set (question_clauses o x y m) (question_done (chosen set ws) x y m) (net_is_checked o k ws set low net) refl))
+        (gone_on (λ r. question_outcome (Err r) m) o k ws set (question_clauses o x y m) (question_done (chosen set ws) x y m) (net_is_checked o k ws set low net) refl))
         ∙ rw ((good_pair o (o + k) x y).1 pair, le-ltb (length m) (o + k) room)
 
     is_told : says_yes byte ≡ true → ToldWhole told o k ws set x y 0
@@ -96,6 +96,6 @@ module _ (told : Bool) (o k : ℕ) (ws : List ℕ) (set x y : ℕ) where
         }
 
   -- Nothing stands below the line of a question that is refused.
-  pub refused_alone : (r : Refusal) → (questioned o k ws set x y (blank 1024)).answer ≡ asked.Refused r → question_text told o k ws set x y ≡ line_of x y (asked.Refused r)
+  pub refused_alone : (r : Refusal) → (questioned o k ws set x y (blank 1024)).answer ≡ Err r → question_text told o k ws set x y ≡ line_of x y (Err r)
   unfolding question_text asked_text
-  refused_alone r e = ap (λ (q : Asked). line_of x y q ++ asked_text told o k ws set x y q) e ∙ append-nil (line_of x y (asked.Refused r))
+  refused_alone r e = ap (λ (q : Asked). line_of x y q ++ asked_text told o k ws set x y q) e ∙ append-nil (line_of x y (Err r))

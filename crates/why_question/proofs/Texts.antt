@@ -1,17 +1,16 @@
 -- The parts of what is printed for a question.
+use Rattle.std.specs.Prelude.{Err, Ok}
 use Prim.Native.Nat.{ℕ}
-use mathlib.Core.Path.{◌≡◌, refl, ap, sym, ◌∙◌}
+use mathlib.Core.Path.{◌≡◌, refl, ap}
 use mathlib.Core.Bool.{Bool}
 use mathlib.Core.List.{List, ◌++◌}
-use Rattle.std.proofs.lemmas.List.{append-nil}
 use Rattle.net.specs.declared.Refusal.{Refusal}
 use Rattle.theory.specs.Marks.{blank}
 use Rattle.text_field.specs.Writing.{Wrote}
 use Rattle.question.specs.Table.{QuestionOutcome, question_outcome, questioned}
 use Rattle.question.specs.declared.Answer.{Answer}
 use Rattle.question.specs.declared.Answer.TheVariants.{None, Yes, No, Both}
-use Rattle.question.specs.declared.Asked.{Asked}
-use Rattle.question.specs.declared.Asked.TheVariants as asked
+use Rattle.question.specs.Table.{Asked}
 use Rattle.ask_line.specs.Line.{line_of}
 use Rattle.why_reason.specs.Told.{why_text}
 use Rattle.why_question.specs.Because.{silent_line, both_text, because_text, asked_text, question_text}
@@ -37,11 +36,11 @@ module _ (told : Bool) (o k : ℕ) (ws : List ℕ) (set x y : ℕ) where
   unfolding because_text
   because_both e = rw e
 
-  pub asked_done : {q : Asked} {a : Answer} {count : ℕ} → q ≡ asked.Done a count → because_text told o k ws set x y a ≡ asked_text told o k ws set x y q
+  pub asked_done : {q : Asked} {a : Answer} {count : ℕ} → q ≡ Ok (a, count) → because_text told o k ws set x y a ≡ asked_text told o k ws set x y q
   unfolding asked_text
   asked_done e = rw e
 
-  pub asked_refused : (text : List ℕ) {q : Asked} {r : Refusal} → q ≡ asked.Refused r → Wrote (asked_text told o k ws set x y q) text text 0
+  pub asked_refused : (text : List ℕ) {q : Asked} {r : Refusal} → q ≡ Err r → Wrote (asked_text told o k ws set x y q) text text 0
   unfolding asked_text
   asked_refused text e = rw e (record { list = refl; size = refl })
 
@@ -49,13 +48,3 @@ module _ (told : Bool) (o k : ℕ) (ws : List ℕ) (set x y : ℕ) where
   pub question_joins : {q : Asked} {m : List ℕ} → question_outcome q m ≡ questioned o k ws set x y (blank 1024) → line_of x y q ++ asked_text told o k ws set x y q ≡ question_text told o k ws set x y
   unfolding question_text
   question_joins e = rw (← ap (λ (p : QuestionOutcome). p.answer) e)
-
-  -- So it is where an answer was given twice, and where nothing more than the line of a refusal is written.
-  pub done_joins : {q : Asked} {a b : Answer} {count : ℕ} {m : List ℕ} → question_outcome q m ≡ questioned o k ws set x y (blank 1024) → q ≡ asked.Done a count → b ≡ a
-      → line_of x y (asked.Done a count) ++ asked_text told o k ws set x y (asked.Done b count) ≡ question_text told o k ws set x y
-  done_joins e f g = rw g (rw (← f) (question_joins e))
-
-  pub refused_joins : {q : Asked} {r : Refusal} {m : List ℕ} → question_outcome q m ≡ questioned o k ws set x y (blank 1024) → q ≡ asked.Refused r
-      → line_of x y (asked.Refused r) ≡ question_text told o k ws set x y
-  unfolding asked_text
-  refused_joins {q} {r} e f = sym (append-nil (line_of x y (asked.Refused r))) ∙ rw f at (question_joins e)

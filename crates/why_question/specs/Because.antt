@@ -1,11 +1,10 @@
 -- What `why` prints for one question.
-use Rattle.std.specs.Prelude.{ℕ, ◌+◌, ◌*◌, Bool, List, [], ◌∷◌, ◌++◌}
+use Rattle.std.specs.Prelude.{ℕ, ◌+◌, ◌*◌, Bool, List, [], ◌∷◌, ◌++◌, Err, Ok}
 use Rattle.theory.specs.Marks.{blank}
 use Rattle.question.specs.Table.{questioned}
 use Rattle.question.specs.declared.Answer.{Answer}
 use Rattle.question.specs.declared.Answer.TheVariants.{None, Yes, No, Both}
-use Rattle.question.specs.declared.Asked.{Asked}
-use Rattle.question.specs.declared.Asked.TheVariants as asked
+use Rattle.question.specs.Table.{Asked}
 use Rattle.ask_line.specs.Line.{line_of}
 use Rattle.why_reason.specs.Told.{derivation_room, why_text}
 
@@ -33,8 +32,8 @@ because_text told o k ws set x y Both = both_text told o k ws set x y
 
 -- The same of what a question gave: nothing where it was refused.
 unfoldable pub asked_text : Bool → ℕ → ℕ → List ℕ → ℕ → ℕ → ℕ → Asked → List ℕ
-asked_text told o k ws set x y (asked.Done a count) = because_text told o k ws set x y a
-asked_text told o k ws set x y (asked.Refused r) = []
+asked_text told o k ws set x y (Ok (a, count)) = because_text told o k ws set x y a
+asked_text told o k ws set x y (Err r) = []
 
 -- The line of `ask`, and below it why.
 unfoldable pub question_text : Bool → ℕ → ℕ → List ℕ → ℕ → ℕ → ℕ → List ℕ

@@ -1,12 +1,13 @@
 // What `why` prints for one question: the line of `ask`, and below it why.
 #![tactic(auto)]
 
-ghost use Rattle.std.specs.Prelude.{◌<◌, ◌≤◌, ◌≡◌, length};
+ghost use Rattle.std.specs.Prelude.{◌<◌, ◌≤◌, length};
 ghost use Rattle.text_field.specs.Writing.{Wrote};
 ghost use Rattle.why_question.specs.Because.{both_room, question_room, both_text, because_text, asked_text, question_text};
 
 use ask_line::put_line;
-use question::{Answer, Asked, ask_question};
+use net::Refusal;
+use question::{Answer, ask_question};
 use text_field::{LINE_END, put_bytes};
 use why_reason::put_why;
 
@@ -60,27 +61,15 @@ fn put_asked(
     x: u32,
     y: u32,
     told: bool,
-    asked: Asked,
+    asked: Result<(Answer, u32), Refusal>,
     text: &mut [u8],
 ) -> usize
     requires { both_room ≤ length text.old }
     ensures { Wrote (asked_text told o k words.now set x y asked) text.old text.new result × (result ≤ both_room) }
 {
     match asked {
-        Asked::Done(answer, _) => put_because(o, k, words, set, x, y, told, answer, text),
-        Asked::Refused(_) => 0,
-    }
-}
-
-// An answer once more.
-fn answer_again(answer: &Answer) -> Answer
-    ensures { result ≡ answer.now }
-{
-    match answer {
-        Answer::None => Answer::None,
-        Answer::Yes => Answer::Yes,
-        Answer::No => Answer::No,
-        Answer::Both => Answer::Both,
+        Ok((answer, _)) => put_because(o, k, words, set, x, y, told, answer, text),
+        Err(_) => 0,
     }
 }
 
@@ -100,12 +89,6 @@ pub fn put_question(
 {
     let mut marks = [0u8; 1024];
     let asked = ask_question(o, k, words, set, x, y, &mut marks);
-    match asked {
-        Asked::Done(answer, count) => {
-            let asked = Asked::Done(answer_again(&answer), count);
-            let at = put_line(text, x, y, Asked::Done(answer, count));
-            at + put_asked(o, k, words, set, x, y, told, asked, &mut text[at..])
-        }
-        Asked::Refused(refusal) => put_line(text, x, y, Asked::Refused(refusal)),
-    }
+    let at = put_line(text, x, y, asked);
+    at + put_asked(o, k, words, set, x, y, told, asked, &mut text[at..])
 }

@@ -1,4 +1,6 @@
 -- The lines that are found can be printed: each has a ground, and its numbers are small.
+use Rattle.explain.specs.declared.ExplainError.TheVariants.{Refused, ShortLines, ShortReason, Unsupported}
+use Rattle.std.specs.Prelude.{Err, Ok}
 use Prim.Native.Nat.{ℕ, suc, ◌+◌, ◌*◌, ◌≤◌, ◌<◌}
 use mathlib.Core.Path.{◌≡◌, refl, sym, ap, ◌∙◌}
 use mathlib.Core.Bool.{Bool}
@@ -13,10 +15,9 @@ use Rattle.derivation_lines.specs.Lines.{Line, blank, Ground, link, r2, r4, r5, 
 use Rattle.derivation_lines.specs.Flat.{one_of, two_of, ground_at, lines_of}
 use Rattle.derivation_lines.proofs.Flatness.{lines_length, line_read}
 use Rattle.derivation_lines.proofs.OneWay.{ground_numbers, follows_grounded}
-use Rattle.net.specs.declared.Refusal.{Refusal}
+use Rattle.explain.specs.declared.ExplainError.{ExplainError}
 use Rattle.explain.specs.Table.{ExplainOutcome, explain_outcome}
-use Rattle.explain.specs.declared.Explained.{Explained}
-use Rattle.explain.specs.declared.Explained.TheVariants.{Done, Unsupported, ShortReason, ShortLines, Refused}
+use Rattle.explain.specs.Table.{Explained}
 use Rattle.explain.proofs.Meaning.{Explains, done_explains}
 use Rattle.why_line.specs.Text.{line_room, line_text, lines_text}
 use Rattle.why_line.proofs.Fields.{two_parts_room, ground_room}
@@ -78,9 +79,9 @@ module _ (o k : ℕ) (ws : List ℕ) (set x y sign : ℕ) where
 
   module _ {a : Explained} {d m l : List ℕ} (gave : explain_outcome a d m l ≡ found o k ws set x y sign) where
     -- The lines of a list that is no longer than the room for lines.
-    pub found_ready : length l ≤ lines_room → {places size : ℕ} → a ≡ Done places size → Ready places l
+    pub found_ready : length l ≤ lines_room → {places size : ℕ} → a ≡ Ok (places, size) → Ready places l
     found_ready h {places} {size} f =
-        let answer : (found o k ws set x y sign).answer ≡ Done places size = sym (ap (λ (q : ExplainOutcome). q.answer) gave) ∙ f in
+        let answer : (found o k ws set x y sign).answer ≡ Ok (places, size) = sym (ap (λ (q : ExplainOutcome). q.answer) gave) ∙ f in
         let r = done_explains o k ws set x y sign (replicate scratch_room 0) (replicate reason_room 0) (replicate lines_room 0) places size answer in
         let s : Explains o k ws set x y sign places l = rw (sym (ap (λ (q : ExplainOutcome). q.lines) gave)) at r in
         explains_ready places l h s
@@ -90,7 +91,7 @@ module _ (o k : ℕ) (ws : List ℕ) (set x y sign : ℕ) where
     unfolding why_text
     by_answer told f = rw (← f) (ap (λ (q : ExplainOutcome). told_by told ws q.answer q.lines) gave)
 
-    pub told_done : (told : Bool) {places size : ℕ} → a ≡ Done places size → lines_text told ws 0 (lines_of (take places l)) ≡ why_text told o k ws set x y sign
+    pub told_done : (told : Bool) {places size : ℕ} → a ≡ Ok (places, size) → lines_text told ws 0 (lines_of (take places l)) ≡ why_text told o k ws set x y sign
     unfolding told_by
     told_done told f = by_answer told f
 
@@ -98,21 +99,15 @@ module _ (o k : ℕ) (ws : List ℕ) (set x y sign : ℕ) where
     nothing : (told : Bool) (text : List ℕ) → [] ≡ why_text told o k ws set x y sign → Wrote (why_text told o k ws set x y sign) text text 0
     nothing told text e = wrote_as e (record { list = refl; size = refl })
 
-    pub told_unsupported : (told : Bool) (text : List ℕ) → a ≡ Unsupported → Wrote (why_text told o k ws set x y sign) text text 0
+    pub told_nothing : (told : Bool) (text : List ℕ) {e : ExplainError} → a ≡ Err e → Wrote (why_text told o k ws set x y sign) text text 0
     unfolding told_by
-    told_unsupported told text f = nothing told text (by_answer told f)
-
-    pub told_short_reason : (told : Bool) (text : List ℕ) {n : ℕ} → a ≡ ShortReason n → Wrote (why_text told o k ws set x y sign) text text 0
-    unfolding told_by
-    told_short_reason told text f = nothing told text (by_answer told f)
-
-    pub told_short_lines : (told : Bool) (text : List ℕ) {n : ℕ} → a ≡ ShortLines n → Wrote (why_text told o k ws set x y sign) text text 0
-    unfolding told_by
-    told_short_lines told text f = nothing told text (by_answer told f)
-
-    pub told_refused : (told : Bool) (text : List ℕ) {r : Refusal} → a ≡ Refused r → Wrote (why_text told o k ws set x y sign) text text 0
-    unfolding told_by
-    told_refused told text f = nothing told text (by_answer told f)
+    told_nothing told text {e} f = nothing told text (at e (by_answer told f))
+      where
+        at : (e : ExplainError) → told_by told ws (Err e) l ≡ why_text told o k ws set x y sign → [] ≡ why_text told o k ws set x y sign
+        at Unsupported f = f
+        at (ShortReason n) f = f
+        at (ShortLines n) f = f
+        at (Refused r) f = f
 
 -- Each line has room, and so have all.
 line_room_lem : (told : Bool) (ws : List ℕ) (n : ℕ) (l : Line) → length (line_text told ws n l) ≤ line_room

@@ -1,4 +1,6 @@
 -- Nothing is ever lost: the room for scratch, for the reason and for its lines does for every net.
+use Rattle.explain.specs.declared.ExplainError.TheVariants.{Refused, Unsupported}
+use Rattle.std.specs.Prelude.{Err}
 use Prim.Native.Nat.{ℕ, ◌+◌, ◌*◌, ◌≤◌, ◌<◌}
 use mathlib.Core.Path.{◌≡◌, refl, sym, ap, ◌∙◌}
 use mathlib.Core.Bool.{Bool}
@@ -28,7 +30,6 @@ use Rattle.derivation_lines.specs.Flat.{flat, lines_of}
 use Rattle.derivation_lines.proofs.Flatness.{flat_length}
 use Rattle.derivation_lines.proofs.ReasonLines.{derivation_back, reason_derives, reason_lines}
 use Rattle.explain.specs.Table.{ExplainOutcome, explain_outcome, explaining, explain_clauses, explain_done, explained}
-use Rattle.explain.specs.declared.Explained.TheVariants.{Unsupported, Refused}
 use Rattle.why_line.specs.Text.{lines_text}
 use Rattle.why_reason.specs.Told.{most_lines, lines_room, scratch_room, reason_room, told_by, why_text}
 
@@ -83,7 +84,7 @@ module _ (o k : ℕ) (ws : List ℕ) (set x y sign : ℕ) (net : NetFrom o k ws)
     on_net : explained o k ws set x y sign d m l
         ≡ call (explain_clauses o (chosen set ws) lines x y sign d m l (o + k)) (explain_done (chosen set ws) lines x y sign d m l (o + k))
     on_net =
-        sym (gone_on (λ r. explain_outcome (Refused r) d m l) o k ws set (explain_clauses o (chosen set ws) lines x y sign d m l) (explain_done (chosen set ws) lines x y sign d m l) (net_is_checked o k ws set low net) refl)
+        sym (gone_on (λ r. explain_outcome (Err (Refused r)) d m l) o k ws set (explain_clauses o (chosen set ws) lines x y sign d m l) (explain_done (chosen set ws) lines x y sign d m l) (net_is_checked o k ws set low net) refl)
 
     -- A statement that has a reason is explained,
     with_reason : links < never → explained o k ws set x y sign d m l ≡ explain_done (chosen set ws) lines x y sign d m l (o + k)
@@ -100,7 +101,7 @@ module _ (o k : ℕ) (ws : List ℕ) (set x y sign : ℕ) (net : NetFrom o k ws)
         )
 
     -- and one that has none is not.
-    without_reason : links ≡ never → explained o k ws set x y sign d m l ≡ explain_outcome Unsupported (filled (chosen set ws) y sign d (o + k)) m l
+    without_reason : links ≡ never → explained o k ws set x y sign d m l ≡ explain_outcome (Err Unsupported) (filled (chosen set ws) y sign d (o + k)) m l
     without_reason e =
         on_net ∙ rw ((good_statement o (o + k) x y sign).1 may, le-ltb (length d) (o + k + (o + k)) (omega (arith, net.few, room.scratch)), eq-eqb links never e)
 

@@ -1,8 +1,8 @@
 -- The text of the derivation that `explain` finds with room for any.
-use Rattle.std.specs.Prelude.{ℕ, ◌*◌, Bool, List, [], take, replicate}
+use Rattle.explain.specs.declared.ExplainError.TheVariants.{Refused, ShortLines, ShortReason, Unsupported}
+use Rattle.std.specs.Prelude.{ℕ, ◌*◌, Bool, List, [], take, replicate, Err, Ok}
 use Rattle.explain.specs.Table.{ExplainOutcome, explained}
-use Rattle.explain.specs.declared.Explained.{Explained}
-use Rattle.explain.specs.declared.Explained.TheVariants.{Done, Unsupported, ShortReason, ShortLines, Refused}
+use Rattle.explain.specs.Table.{Explained}
 use Rattle.derivation_lines.specs.Flat.{lines_of}
 use Rattle.why_line.specs.Text.{line_room, lines_text}
 
@@ -31,11 +31,11 @@ found o k ws set x y sign = explained o k ws set x y sign (replicate scratch_roo
 
 -- The lines by the answer, out of the list l in which they stand.
 unfoldable pub told_by : Bool → List ℕ → Explained → List ℕ → List ℕ
-told_by told ws (Done places size) l = lines_text told ws 0 (lines_of (take places l))
-told_by told ws Unsupported l = []
-told_by told ws (ShortReason needed) l = []
-told_by told ws (ShortLines needed) l = []
-told_by told ws (Refused r) l = []
+told_by told ws (Ok (places, size)) l = lines_text told ws 0 (lines_of (take places l))
+told_by told ws (Err Unsupported) l = []
+told_by told ws (Err (ShortReason needed)) l = []
+told_by told ws (Err (ShortLines needed)) l = []
+told_by told ws (Err (Refused r)) l = []
 
 -- Why x → y (sign 0), or x ↛ y (sign 1).
 unfoldable pub why_text : Bool → ℕ → ℕ → List ℕ → ℕ → ℕ → ℕ → ℕ → List ℕ

@@ -8,7 +8,7 @@ ghost use Rattle.why_line.specs.Text.{lines_text};
 ghost use Rattle.why_lines.specs.Printable.{Printable};
 ghost use Rattle.why_reason.specs.Told.{lines_room, derivation_room, why_text};
 
-use explain::{Explained, explain};
+use explain::explain;
 use why_lines::put_derivation;
 
 // Places of scratch, of the reason and of its lines that do on 1,024 nodes.
@@ -59,10 +59,7 @@ pub fn put_why(
         &mut lines,
     );
     match found {
-        Explained::Done(places, _) => put_told(text, told, words, places, &lines),
-        Explained::Unsupported => 0,
-        Explained::ShortReason(_) => 0,
-        Explained::ShortLines(_) => 0,
-        Explained::Refused(_) => 0,
+        Ok((places, _)) => put_told(text, told, words, places, &lines),
+        Err(_) => 0,
     }
 }

@@ -6,16 +6,15 @@ use mathlib.Core.List.{List, map}
 use borrow.Author.Tests.{eq-eqb, ne_eqb}
 use lib.Dec.{ltb}
 use lib.ListN.{length, get_or, get_or-map}
+use Rattle.std.specs.Prelude.{Ok, Err}
 use Rattle.net.specs.Table.{Reply, refusal_reply, check_net, check_plain}
 use Rattle.net.specs.declared.Refusal.{Refusal}
-use Rattle.net.specs.declared.Checked.{Checked}
-use Rattle.net.specs.declared.Checked.TheVariants as checked
+use Rattle.net.specs.Table.{Checked}
 use Rattle.netfile_numbers.specs.Bytes.{u16_at, u32_at}
 use Rattle.netfile_entry.specs.Entries.{entries, contents_size}
-use Rattle.netfile.specs.Contents.{contents_of, cut, bodies_of}
+use Rattle.netfile.specs.declared.Malformed.{Malformed}
+use Rattle.netfile.specs.Contents.{contents_of, cut, bodies_of, Contents}
 use Rattle.netfile.specs.Places.{words_start}
-use Rattle.netfile.specs.declared.Contents.{Contents}
-use Rattle.netfile.specs.declared.Contents.TheVariants.{Bodies, Malformed}
 use Rattle.netfile.proofs.Places.{says_place}
 use Rattle.netfile.proofs.Stretches.{stretches}
 use Rattle.text_field.specs.Decimal.{decimal}
@@ -54,12 +53,12 @@ module _ (told : Bool) (o k : ℕ) (ws : List ℕ) (set : ℕ) (b : List ℕ) (i
 
   -- ── a net, by what its check gave ──
   module _ {c : Checked} {l l' : List ℕ} {size : ℕ} where
-    pub net_question : {n : ℕ} → c ≡ checked.Nodes n → Wrote (question_at told o k ws set b i) l l' size
+    pub net_question : {n : ℕ} → c ≡ Ok n → Wrote (question_at told o k ws set b i) l l' size
         → Turned (net_part told o k ws set b i c) l l' (record { size = size; going = ltb (i + 1) (length b / 4) })
     unfolding net_part
     net_question e w = rw e (record { text = w; going = refl })
 
-    pub net_refused : {r : Refusal} {given : Reply} → c ≡ checked.Refused r → given ≡ refusal_reply r
+    pub net_refused : {r : Refusal} {given : Reply} → c ≡ Err r → given ≡ refusal_reply r
         → Wrote (field net_word (field (decimal given.number) (field (decimal given.first) (last_field (decimal given.second))))) l l' size
         → Turned (net_part told o k ws set b i c) l l' (record { size = size; going = false })
     unfolding net_part
@@ -77,15 +76,16 @@ module _ (nodes words questions origins : List ℕ) (i : ℕ) {o k : ℕ} {ws : 
 -- ── a file ──
 module _ (s : List ℕ) {c : Contents} (e : c ≡ contents_of s) (i : ℕ) where
   -- The line of a malformed one.
-  pub malformed_part : {place : ℕ} → c ≡ Malformed place → last_part (field file_word (field (decimal 9) (last_field (decimal place)))) ≡ part_of s i
+  pub malformed_part : {m : Malformed} → c ≡ Err m → last_part (field file_word (field (decimal 9) (last_field (decimal m.place)))) ≡ part_of s i
   unfolding part_of
-  malformed_part {place} f = sym (says_place s place (sym e ∙ f) _ _ _)
+  malformed_part {m} f = sym (says_place s m.place (sym e ∙ f) _ _ _)
 
   -- The part of the four bodies that the reader hands back is the file's.
-  pub handed_part : {A : Type 0} (now : A → List ℕ) (r : List A) (z : A) {q d : ℕ} → c ≡ Bodies q d → map now r ≡ bodies_of s
+  pub handed_part : {A : Type 0} (now : A → List ℕ) (r : List A) (z : A) {p : ℕ × ℕ} → c ≡ Ok p → map now r ≡ bodies_of s
       → bodies_part (now (get_or r 0 z)) (now (get_or r 1 z)) (now (get_or r 2 z)) (now (get_or r 3 z)) i ≡ part_of s i
   unfolding part_of
-  handed_part now r z {q} {d} f g =
+  handed_part now r z {p} f g =
+      let (q, d) = p in
       let t = stretches s q d (sym e ∙ f) in
       let body : (j : ℕ) → now (get_or r j z) ≡ get_or (cut s (contents_size (entries s)) (words_start (entries s) s) (words_start (entries s) s) q q d d (length s)) j (now z) =
       λ j. sym (get_or-map now r j z) ∙ ap (λ (l : List (List ℕ)). get_or l j (now z)) (g ∙ t.says _ _ _) in

@@ -6,15 +6,13 @@ use mathlib.Core.List.{List}
 use native.Mathlib.Omega.{arith}
 use lib.Dec.{eqb}
 use lib.ListN.{length, length-take, length-drop}
+use Rattle.std.specs.Prelude.{Ok, Err}
 use Rattle.net.specs.Table.{check_net, check_plain}
-use Rattle.net.specs.declared.Checked.{Checked}
-use Rattle.net.specs.declared.Checked.TheVariants as checked
+use Rattle.net.specs.Table.{Checked}
 use Rattle.netfile_numbers.specs.Bytes.{u32_at}
 use Rattle.netfile_entry.specs.Entries.{entries, contents_size}
-use Rattle.netfile.specs.Contents.{contents_of, stretch}
+use Rattle.netfile.specs.Contents.{contents_of, stretch, Contents}
 use Rattle.netfile.specs.Places.{words_start}
-use Rattle.netfile.specs.declared.Contents.{Contents}
-use Rattle.netfile.specs.declared.Contents.TheVariants.{Bodies, Malformed}
 use Rattle.netfile.proofs.Places.{says_place}
 use Rattle.netfile.proofs.Stretches.{stretches}
 use Rattle.ask_text.specs.Text.{words_of, file_report}
@@ -32,8 +30,8 @@ module _ (s : List ℕ) where
   by_check_lem : (told : Bool) (o k : ℕ) (ws : List ℕ) (set : ℕ) (b : List ℕ) (c : Checked) → length b / 4 ≤ 8192 → ((i : ℕ) → part_of s i ≡ net_part told o k ws set b i c)
       → why_of s ≡ net_why told o k ws set b c → Seen s
   unfolding net_part net_why
-  by_check_lem told o k ws set b (checked.Nodes n) h e f = each told o k ws set b h e f
-  by_check_lem told o k ws set b (checked.Refused r) h e f = one _ e f
+  by_check_lem told o k ws set b (Ok n) h e f = each told o k ws set b h e f
+  by_check_lem told o k ws set b (Err r) h e f = one _ e f
 
   -- By the bodies.
   by_bodies : (nodes words questions origins : List ℕ) → length questions / 4 ≤ 8192 → ((i : ℕ) → part_of s i ≡ bodies_part nodes words questions origins i)
@@ -54,8 +52,8 @@ module _ (s : List ℕ) where
   -- By the contents.
   by_contents : (c : Contents) → contents_of s ≡ c → Seen s
   unfolding part_of why_of
-  by_contents (Malformed place) e = one (file_report place) (λ i. says_place s place e _ _ _) (says_place s place e _ _ _)
-  by_contents (Bodies q d) e =
+  by_contents (Err m) e = one (file_report m.place) (λ i. says_place s m.place e _ _ _) (says_place s m.place e _ _ _)
+  by_contents (Ok (q, d)) e =
       let t = stretches s q d e in
       by_bodies (stretch s (contents_size (entries s)) (words_start (entries s) s)) (stretch s (words_start (entries s) s) q) (stretch s q d) (stretch s d (length s))
       (simp (length-take, length-drop) (omega (arith, t.limit, t.end))) (λ i. t.says _ _ _) (t.says _ _ _)

@@ -1,8 +1,7 @@
 -- The text that `why` prints for a file: what `ask` prints, and below the line of each question why.
-use Rattle.std.specs.Prelude.{ℕ, zero, suc, ◌/◌, Bool, true, false, cond, List, [], ◌++◌, eqb, length, drop}
+use Rattle.std.specs.Prelude.{ℕ, zero, suc, ◌/◌, Bool, true, false, cond, List, [], ◌++◌, eqb, length, drop, Err, Ok}
 use Rattle.net.specs.Table.{check_net, check_plain}
-use Rattle.net.specs.declared.Checked.{Checked}
-use Rattle.net.specs.declared.Checked.TheVariants as checked
+use Rattle.net.specs.Table.{Checked}
 use Rattle.netfile_numbers.specs.Bytes.{u16_at, u32_at}
 use Rattle.netfile.specs.Contents.{entries_of, stretch}
 use Rattle.ask_net.specs.Lines.{net_text}
@@ -16,8 +15,8 @@ questions_text told o k ws set (suc j) b = question_text told o k ws set (u16_at
 
 -- The text for a net by what its check gave: that of each question, or for a net that is refused what `ask` prints.
 unfoldable pub net_why : Bool → ℕ → ℕ → List ℕ → ℕ → List ℕ → Checked → List ℕ
-net_why told o k ws set b (checked.Nodes n) = questions_text told o k ws set (length b / 4) b
-net_why told o k ws set b (checked.Refused r) = net_text o k ws set b (checked.Refused r)
+net_why told o k ws set b (Ok n) = questions_text told o k ws set (length b / 4) b
+net_why told o k ws set b (Err r) = net_text o k ws set b (Err r)
 
 -- The text for the bodies of a file: without a set the words are plain and no origin is told, with one they have origins, which are.
 abbrev pub bodies_why : List ℕ → List ℕ → List ℕ → List ℕ → List ℕ

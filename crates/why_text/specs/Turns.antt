@@ -1,8 +1,7 @@
 -- The text of `why` turn by turn, as the program writes it: a turn for each question.
-use Rattle.std.specs.Prelude.{ℕ, zero, suc, ◌+◌, ◌*◌, ◌/◌, ◌≡◌, Bool, true, false, cond, List, [], ◌++◌, eqb, ltb, length}
+use Rattle.std.specs.Prelude.{ℕ, zero, suc, ◌+◌, ◌*◌, ◌/◌, ◌≡◌, Bool, true, false, cond, List, [], ◌++◌, eqb, ltb, length, Err, Ok}
 use Rattle.net.specs.Table.{check_net, check_plain}
-use Rattle.net.specs.declared.Checked.{Checked}
-use Rattle.net.specs.declared.Checked.TheVariants as checked
+use Rattle.net.specs.Table.{Checked}
 use Rattle.netfile_numbers.specs.Bytes.{u16_at, u32_at}
 use Rattle.netfile.specs.Contents.{entries_of, stretch}
 use Rattle.text_field.specs.Writing.{Wrote}
@@ -30,8 +29,8 @@ question_part told o k ws set b i = record { text = question_at told o k ws set 
 
 -- Part i for a net by what its check gave: question i; one part for a net that is refused.
 unfoldable pub net_part : Bool → ℕ → ℕ → List ℕ → ℕ → List ℕ → ℕ → Checked → Part
-net_part told o k ws set b i (checked.Nodes n) = question_part told o k ws set b i
-net_part told o k ws set b i (checked.Refused r) = last_part (net_text o k ws set b (checked.Refused r))
+net_part told o k ws set b i (Ok n) = question_part told o k ws set b i
+net_part told o k ws set b i (Err r) = last_part (net_text o k ws set b (Err r))
 
 -- Part i for the bodies of a file.
 abbrev pub bodies_part : List ℕ → List ℕ → List ℕ → List ℕ → ℕ → Part

@@ -8,8 +8,8 @@ ghost use Rattle.why_question.specs.Because.{question_room};
 ghost use Rattle.why_text.specs.Turns.{question_at, net_part, bodies_part, part_of, Turned};
 
 use ask_line::{put_refused_net, put_report};
-use net::{Checked, check_net, check_plain, refusal_given};
-use netfile::{Contents, read_bodies, read_contents};
+use net::{Refusal, check_net, check_plain, refusal_given};
+use netfile::{read_bodies, read_contents};
 use netfile_numbers::{read_words, u16_at, u32_at};
 use text_field::LINE_END;
 use why_question::put_question;
@@ -50,7 +50,7 @@ fn turn_net(
     words: &[u32],
     set: u32,
     told: bool,
-    checked: Checked,
+    checked: Result<usize, Refusal>,
     questions: &[u8],
     i: u32,
     text: &mut [u8],
@@ -59,20 +59,17 @@ fn turn_net(
     ensures { Turned (net_part told o k words.now set questions.now i checked) text.old text.new result }
 {
     match checked {
-        Checked::Nodes(_) => {
+        Ok(_) => {
             let size = put_question_at(o, k, words, set, told, questions, i as usize, text);
             Turn {
-                size: size,
+                size,
                 going: i as usize + 1 < questions.len() / 4,
             }
         }
-        Checked::Refused(refusal) => {
+        Err(refusal) => {
             let reply = refusal_given(refusal);
             let size = put_refused_net(text, reply.number, reply.first, reply.second);
-            Turn {
-                size: size,
-                going: false,
-            }
+            Turn { size, going: false }
         }
     }
 }
@@ -111,18 +108,14 @@ pub fn take_turn(file: &[u8], i: u32, text: &mut [u8]) -> Turn
     requires { question_room ≤ length text.old }
     ensures { Turned (part_of file.now i) text.old text.new result }
 {
-    let contents = read_contents(file);
-    match contents {
-        Contents::Bodies(_, _) => {
+    match read_contents(file) {
+        Ok(_) => {
             let bodies = read_bodies(file);
             turn_bodies(bodies[0], bodies[1], bodies[2], bodies[3], i, text)
         }
-        Contents::Malformed(place) => {
-            let size = put_report(text, b"file", 9, place, LINE_END);
-            Turn {
-                size: size,
-                going: false,
-            }
+        Err(malformed) => {
+            let size = put_report(text, b"file", 9, malformed.place, LINE_END);
+            Turn { size, going: false }
         }
     }
 }

@@ -1,4 +1,4 @@
-use Prim.Native.Nat.{◌*◌, ◌/◌, ◌-◌, ◌≤◌}
+use Prim.Native.Nat.{◌*◌, ◌≤◌}
 use mathlib.Core.Path.{◌≡◌}
 use lib.ListN.{length}
 use Rattle.theory.specs.Origins.{chosen}
@@ -9,7 +9,4 @@ use Rattle.ask_net.proofs.put_lines.Given as goal
 
 abbrev pub invariant-loop-i : goal.invariant-loop-i
 invariant-loop-i l =
-    (l.i ≤ length l.questions / 4) × ((length l.marks ≡ 1024) × ((l.at ≤ l.i * 31) × (Wrote (lines_of l.o l.k l.words l.set l.i l.questions) l.initial.text l.text l.at × Known l.n (chosen l.set l.words) l.held l.marks)))
-
-abbrev pub decreases-loop-i : goal.decreases-loop-i
-decreases-loop-i l = length l.questions / 4 - l.i
+    (length l.marks ≡ 1024) × ((l.at ≤ l.i * 31) × (Wrote (lines_of l.o l.k l.words l.set l.i l.questions) l.initial.text l.text l.at × Known l.n (chosen l.set l.words) l.held l.marks))

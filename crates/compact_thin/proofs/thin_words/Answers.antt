@@ -15,18 +15,9 @@ thin_one-requires c =
       room = omega (arith, c.loop-i.invariant.marks_long, c.requires.room);
     }
 
-pub overflow_sub-end : goal.overflow_sub-end
-overflow_sub-end c = omega (arith, c.loop-i.invariant.low)
-
-pub loop-i-smaller-then-thin_one : goal.loop-i-smaller-then-thin_one
-loop-i-smaller-then-thin_one c = omega arith
-
 pub loop-i-preserved-then-thin_one : goal.loop-i-preserved-then-thin_one
 loop-i-preserved-then-thin_one c =
     thins_goes c.args.o c.args.k c.args.n c.args.count c.args.words.now c.args.marks.now c.requires.part c.loop-i.invariant (omega arith) c.thin_one.ensures.answer c.thin_one.ensures.left c.thin_one.auto.words c.thin_one.auto.marks c.thin_one.ensures.past c.if-thin_one.true
-
-pub loop-i-smaller : goal.loop-i-smaller
-loop-i-smaller c = omega arith
 
 pub loop-i-preserved : goal.loop-i-preserved
 loop-i-preserved c =

@@ -1,28 +1,32 @@
-use mathlib.Core.Path.{sym, ◌∙◌}
+use Rattle.std.proofs.lemmas.Result.{err_from_is_err_and}
+use Rattle.completion.specs.declared.CompletionError.TheVariants.{Refused}
+use Rattle.std.specs.Prelude.{Err}
+use mathlib.Core.Path.{sym}
 use Rattle.theory.specs.Completion.{complete}
 use Rattle.theory.specs.Origins.{chosen}
 use Rattle.net.proofs.OnNet.{passed_on, gone_on}
 use Rattle.net.proofs.NetCheck.{chosen_checked}
 use Rattle.completion.specs.Table.{completion_outcome, completion_clauses, completion_done}
-use Rattle.completion.specs.declared.Completed.TheVariants.{Refused}
 use Rattle.completion.proofs.complete_net.Goals as goal
 
 pub complete_checked-requires : goal.complete_checked-requires
 complete_checked-requires c =
-    let t = chosen_checked c.args.o c.args.k c.args.words.now c.args.set (sym c.check_net-net.ensures ∙ c.in-Nodes.is) in
+    let t = chosen_checked c.args.o c.args.k c.args.words.now c.args.set (sym c.in_ok-n.ensures) in
     record {
       net = t.1;
       size = t.0;
     }
 
-pub returns-in-Refused : goal.returns-in-Refused
-returns-in-Refused c =
-    passed_on (λ r. completion_outcome (Refused r) c.args.marks.now c.args.list.now) c.args.o c.args.k c.args.words.now c.args.set
+pub returns-in_err-n : goal.returns-in_err-n
+returns-in_err-n c =
+    let p = err_from_is_err_and c.from_residual.result c.from_residual.ensures.1 in
+    rw (p.1, p.2)
+    (passed_on (λ r. completion_outcome (Err (Refused r)) c.args.marks.now c.args.list.now) c.args.o c.args.k c.args.words.now c.args.set
     (completion_clauses (complete c.args.o c.args.k (chosen c.args.set c.args.words.now)) c.args.marks.now c.args.list.now)
-    (completion_done (complete c.args.o c.args.k (chosen c.args.set c.args.words.now)) c.args.marks.now c.args.list.now) (sym c.check_net-net.ensures ∙ c.in-Refused.is)
+    (completion_done (complete c.args.o c.args.k (chosen c.args.set c.args.words.now)) c.args.marks.now c.args.list.now) (sym c.in_err-n.ensures))
 
-pub returns-in-Nodes : goal.returns-in-Nodes
-returns-in-Nodes c =
-    gone_on (λ r. completion_outcome (Refused r) c.args.marks.now c.args.list.now) c.args.o c.args.k c.args.words.now c.args.set
+pub returns : goal.returns
+returns c =
+    gone_on (λ r. completion_outcome (Err (Refused r)) c.args.marks.now c.args.list.now) c.args.o c.args.k c.args.words.now c.args.set
     (completion_clauses (complete c.args.o c.args.k (chosen c.args.set c.args.words.now)) c.args.marks.now c.args.list.now)
-    (completion_done (complete c.args.o c.args.k (chosen c.args.set c.args.words.now)) c.args.marks.now c.args.list.now) (sym c.check_net-net.ensures ∙ c.in-Nodes.is) c.complete_checked.ensures
+    (completion_done (complete c.args.o c.args.k (chosen c.args.set c.args.words.now)) c.args.marks.now c.args.list.now) (sym c.in_ok-n.ensures) c.complete_checked.ensures

@@ -1,4 +1,5 @@
-use Prim.Native.Nat.{◌-◌, ◌≤◌}
+-- The words of the kinds below y stand in front of the list.
+use Prim.Native.Nat.{◌-◌}
 use mathlib.Core.Path.{◌≡◌}
 use lib.ListN.{length}
 use Rattle.theory_laws.specs.Over.{over}
@@ -7,7 +8,4 @@ use Rattle.completion_cell.proofs.write_row.Given as goal
 
 abbrev pub invariant-loop-y : goal.invariant-loop-y
 invariant-loop-y l =
-    (l.o ≤ l.y) × (l.y ≤ l.n) × (length l.list ≡ length l.initial.list) × (l.at ≡ length (row l.x l.marks l.o (l.y - l.o))) × (l.list ≡ over (row l.x l.marks l.o (l.y - l.o)) l.initial.list)
-
-abbrev pub decreases-loop-y : goal.decreases-loop-y
-decreases-loop-y l = l.n - l.y
+    (l.at ≡ length (row l.x l.marks l.o (l.y - l.o))) × (l.list ≡ over (row l.x l.marks l.o (l.y - l.o)) l.initial.list)

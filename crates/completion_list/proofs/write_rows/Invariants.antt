@@ -1,4 +1,4 @@
-use Prim.Native.Nat.{◌-◌, ◌≤◌}
+-- The rows of the nodes below x stand in front of the list, and the bytes past the nodes are as they were.
 use mathlib.Core.Path.{◌≡◌}
 use lib.ListN.{length, drop}
 use Rattle.theory_laws.specs.Over.{over}
@@ -8,12 +8,6 @@ use Rattle.completion_list.proofs.write_rows.Given as goal
 
 abbrev pub invariant-loop-x : goal.invariant-loop-x
 invariant-loop-x l =
-    (l.x ≤ l.n)
-    × (length l.marks ≡ length l.initial.marks)
-    × (drop l.n l.marks ≡ drop l.n l.initial.marks)
-    × (length l.list ≡ length l.initial.list)
+    (drop l.n l.marks ≡ drop l.n l.initial.marks)
     × (l.at ≡ length (rows l.o l.k (chosen l.set l.words) 0 l.x))
     × (l.list ≡ over (rows l.o l.k (chosen l.set l.words) 0 l.x) l.initial.list)
-
-abbrev pub decreases-loop-x : goal.decreases-loop-x
-decreases-loop-x l = l.n - l.x

@@ -1,22 +1,25 @@
-use mathlib.Core.Path.{sym, ◌∙◌}
+use Rattle.std.specs.Prelude.{Err}
+use Rattle.std.proofs.lemmas.Result.{err_from_is_err_and}
+use mathlib.Core.Path.{sym}
 use Rattle.net.proofs.NetCheck.{chosen_checked}
 use Rattle.net.proofs.OnNet.{passed_on, gone_on}
 use Rattle.reason_check.specs.Table.{check_clauses}
-use Rattle.reason_check.specs.declared.Verdict.TheVariants.{Refused}
 use Rattle.derivation_check.specs.Table.{lines_done}
 use Rattle.derivation_check.proofs.check_derivation.Goals as goal
 
-pub returns-in-Refused : goal.returns-in-Refused
-returns-in-Refused c =
-    passed_on Refused c.args.o c.args.k c.args.words.now c.args.set (check_clauses c.args.o c.args.x c.args.y c.args.sign)
-    (λ _. lines_done c.args.o c.args.k c.args.set c.args.words.now c.args.x c.args.y c.args.sign c.args.list.now) (sym c.check_net-net.ensures ∙ c.in-Refused.is)
-
 pub check_lines-requires : goal.check_lines-requires
 check_lines-requires c =
-    (chosen_checked c.args.o c.args.k c.args.words.now c.args.set (sym c.check_net-net.ensures ∙ c.in-Nodes.is)).1
+    (chosen_checked c.args.o c.args.k c.args.words.now c.args.set (sym c.in_ok-n.ensures)).1
 
-pub returns-in-Nodes : goal.returns-in-Nodes
-returns-in-Nodes c =
-    gone_on Refused c.args.o c.args.k c.args.words.now c.args.set (check_clauses c.args.o c.args.x c.args.y c.args.sign)
-    (λ _. lines_done c.args.o c.args.k c.args.set c.args.words.now c.args.x c.args.y c.args.sign c.args.list.now) (sym c.check_net-net.ensures ∙ c.in-Nodes.is)
+pub returns-in_err-n : goal.returns-in_err-n
+returns-in_err-n c =
+    let p = err_from_is_err_and c.from_residual.result c.from_residual.ensures.1 in
+    rw (p.1, p.2)
+    (passed_on Err c.args.o c.args.k c.args.words.now c.args.set (check_clauses c.args.o c.args.x c.args.y c.args.sign)
+    (λ _. lines_done c.args.o c.args.k c.args.set c.args.words.now c.args.x c.args.y c.args.sign c.args.list.now) (sym c.in_err-n.ensures))
+
+pub returns : goal.returns
+returns c =
+    gone_on Err c.args.o c.args.k c.args.words.now c.args.set (check_clauses c.args.o c.args.x c.args.y c.args.sign)
+    (λ _. lines_done c.args.o c.args.k c.args.set c.args.words.now c.args.x c.args.y c.args.sign c.args.list.now) (sym c.in_ok-n.ensures)
     c.check_lines.ensures

@@ -13,12 +13,6 @@ is_derivation-requires c =
       sign = ((good_statement c.args.o c.args.n c.args.x c.args.y c.args.sign).0 (sym c.is_bad_statement.ensures ∙ c.if-is_bad_statement.false)).signed;
     }
 
-pub returns-then-is_derivation : goal.returns-then-is_derivation
-returns-then-is_derivation c =
-    simp
-    (sym c.is_bad_statement.ensures ∙ c.if-is_bad_statement.false, sym c.is_derivation.ensures ∙ c.if-is_derivation.true)
-
 pub returns : goal.returns
 returns c =
-    simp
-    (sym c.is_bad_statement.ensures ∙ c.if-is_bad_statement.false, sym c.is_derivation.ensures ∙ c.if-is_derivation.false)
+    simp (sym c.is_bad_statement.ensures ∙ c.if-is_bad_statement.false, sym c.is_derivation.ensures)

@@ -19,7 +19,7 @@ returns-then-word_says c =
 pub loop-i-preserved : goal.loop-i-preserved
 loop-i-preserved c =
     let p = place_go c.args.set c.args.x c.args.y c.args.sign c.args.words.now c.loop-i.i (omega arith) (sym c.word_says.ensures ∙ c.if-word_says.false) in
-    (omega arith, omega arith)
+    omega arith
 
 pub returns : goal.returns
 returns c =

@@ -1,6 +1,7 @@
+use mathlib.Core.Path.{refl, ◌∙◌}
 use native.Mathlib.Omega.{arith}
 use lib.ListN.{length-set}
-use Rattle.mend_loop.proofs.Trying.{more_long, more_inside, no_clash, some_clash}
+use Rattle.mend_loop.proofs.Trying.{more_long, more_inside, node_found, kind_found, put_back}
 use Rattle.mend_loop.proofs.try_word.Goals as goal
 
 pub slice_bounds-clashing_node-end : goal.slice_bounds-clashing_node-end
@@ -21,14 +22,11 @@ clashing_node-node-requires c =
     }
 
 pub returns-then-n-node : goal.returns-then-n-node
-returns-then-n-node c =
-    let t = (no_clash c.args.kept.now c.args.count c.args.word c.requires.place c.args.o c.args.k c.args.n c.clashing_node-node.ensures.found c.if-n-node.true c.clashing_node-node.ensures.past) in
-    record {
-      node = t.0;
-      kind = t.1.0;
-      left = t.1.1.0;
-      past = t.1.1.1;
-    }
+returns-then-n-node c = record {
+  clash = omega (arith, node_found c.args.kept.now c.args.count c.args.word c.requires.place c.args.n c.clashing_node-node.ensures.found);
+  left = refl;
+  past = c.clashing_node-node.ensures.past;
+}
 
 pub slice_bounds-clashing_kind-end : goal.slice_bounds-clashing_kind-end
 slice_bounds-clashing_kind-end c =
@@ -49,11 +47,12 @@ clashing_kind-kind-requires c =
     }
 
 pub returns : goal.returns
-returns c =
-    let t = (some_clash c.args.kept.now c.args.count c.args.word c.requires.place c.args.o c.args.k c.args.n c.clashing_node-node.ensures.found c.if-n-node.false c.clashing_node-node.ensures.past c.clashing_kind-kind.ensures.found c.clashing_kind-kind.ensures.past) in
-    record {
-      node = t.0;
-      kind = t.1.0;
-      left = t.1.1.0;
-      past = t.1.1.1;
-    }
+returns c = record {
+  clash = (
+    node_found c.args.kept.now c.args.count c.args.word c.requires.place c.args.n c.clashing_node-node.ensures.found,
+    c.if-n-node.false,
+    kind_found c.args.kept.now c.args.count c.args.word c.requires.place c.args.n c.clashing_node-node.ensures.found c.args.o c.args.k c.clashing_kind-kind.ensures.found,
+  );
+  left = put_back c.args.kept.now c.args.count c.args.word c.requires.place;
+  past = c.clashing_kind-kind.ensures.past ∙ c.clashing_node-node.ensures.past;
+}

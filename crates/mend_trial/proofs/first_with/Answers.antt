@@ -1,4 +1,4 @@
-use mathlib.Core.Path.{refl, sym, ◌∙◌}
+use mathlib.Core.Path.{◌≡◌, refl, sym, ◌∙◌}
 use mathlib.Core.Bool.{cond}
 use native.Mathlib.Omega.{arith}
 use Rattle.theory.specs.Marks.{T, F, U}
@@ -6,16 +6,17 @@ use Rattle.mend_trial.proofs.Searching.{with_stop, with_go, with_end}
 use Rattle.mend_trial.proofs.first_with.Goals as goal
 
 pub loop-v-init : goal.loop-v-init
-loop-v-init c = (c.requires.0, refl)
+loop-v-init c = refl
 
 pub returns-then-has_both : goal.returns-then-has_both
 returns-then-has_both c =
-    sym (c.loop-v.invariant.1 ∙ with_stop (cond c.args.kinds U T) F c.args.marks.now c.loop-v.v c.args.n c.has_both.ensures (omega arith) c.if-has_both.true)
+    sym (c.loop-v.invariant ∙ with_stop (cond c.args.kinds U T) F c.args.marks.now c.loop-v.v c.args.n c.has_both.ensures (omega arith) c.if-has_both.true)
 
 pub loop-v-preserved : goal.loop-v-preserved
 loop-v-preserved c =
-    (omega arith, c.loop-v.invariant.1 ∙ with_go (cond c.args.kinds U T) F c.args.marks.now c.loop-v.v c.args.n c.has_both.ensures (omega arith) c.if-has_both.false)
+    c.loop-v.invariant ∙ with_go (cond c.args.kinds U T) F c.args.marks.now c.loop-v.v c.args.n c.has_both.ensures (omega arith) c.if-has_both.false
 
 pub returns : goal.returns
 returns c =
-    sym (c.loop-v.invariant.1 ∙ with_end (cond c.args.kinds U T) F c.args.marks.now c.loop-v.v c.args.n (omega arith))
+    let e : c.loop-v.v ≡ c.args.n = omega arith in
+    sym (c.loop-v.invariant ∙ with_end (cond c.args.kinds U T) F c.args.marks.now c.loop-v.v c.args.n (omega arith) ∙ e)

@@ -1,100 +1,23 @@
-use mathlib.Core.Path.{sym, ◌∙◌}
-use native.Mathlib.Omega.{arith}
-use Rattle.netfile_entry.proofs.Opening.{open_inside, fourth_inside}
-use Rattle.netfile.proofs.Reading.{contents_fit, first_start, missized, first_shut, second_shut, third_shut, fourth_shut, all_open}
+use Rattle.std.proofs.Common.{arith, sym, ap, subst, ◌∙◌}
+use Rattle.netfile.proofs.Told.{bodies_in, bodies_told, AllInside, inside_told}
 use Rattle.netfile.proofs.read_bodies.Goals as goal
 
-pub returns-then-wrong_size : goal.returns-then-wrong_size
-returns-then-wrong_size c = c.no_bodies.ensures ∙ sym (missized _ (sym c.wrong_size.ensures ∙ c.if-wrong_size.true) _ _ _)
-
-pub entry_count-count-requires : goal.entry_count-count-requires
-entry_count-count-requires c = first_start c.args.file.now (sym c.wrong_size.ensures ∙ c.if-wrong_size.false)
-
-pub overflow_mul-count : goal.overflow_mul-count
-overflow_mul-count c = omega (arith, contents_fit _ (sym c.wrong_size.ensures ∙ c.if-wrong_size.false) _ c.entry_count-count.ensures)
-
-pub open_entry-first-requires : goal.open_entry-first-requires
-open_entry-first-requires c = let f = contents_fit _ (sym c.wrong_size.ensures ∙ c.if-wrong_size.false) _ c.entry_count-count.ensures in (omega (arith, f), f.1, f.2)
-
 pub returns-in_default : goal.returns-in_default
-returns-in_default c =
-    c.no_bodies-in_default.ensures
-    ∙ sym (first_shut _ (sym c.wrong_size.ensures ∙ c.if-wrong_size.false) _ c.entry_count-count.ensures
-    _ c.open_entry-first.ensures c.in_default.is _ _ _)
+returns-in_default c = sym (bodies_told c.args.file.now ∙ ap (bodies_in c.args.file.now) (sym c.read_entries.ensures ∙ c.in_default.is))
 
-pub open_entry-second-requires : goal.open_entry-second-requires
-open_entry-second-requires c = let f = contents_fit _ (sym c.wrong_size.ensures ∙ c.if-wrong_size.false) _ c.entry_count-count.ensures in (omega (arith, f), f.1, f.2)
+pub body-requires : goal.body-requires
+body-requires c = let i = subst (AllInside c.args.file.now) (sym c.read_entries.ensures ∙ c.in-Ok.is) (inside_told _) in (omega (arith, i), omega (arith, i))
 
-pub returns-in_default-second : goal.returns-in_default-second
-returns-in_default-second c =
-    c.no_bodies-in_default-second.ensures
-    ∙ sym (second_shut _ (sym c.wrong_size.ensures ∙ c.if-wrong_size.false) _ c.entry_count-count.ensures
-    _ _ _ c.open_entry-first.ensures c.in-Open.is
-    _ c.open_entry-second.ensures c.in_default-second.is _ _ _)
+pub body-requires-2 : goal.body-requires-2
+body-requires-2 c = let i = subst (AllInside c.args.file.now) (sym c.read_entries.ensures ∙ c.in-Ok.is) (inside_told _) in (omega (arith, i), omega (arith, i))
 
-pub open_entry-third-requires : goal.open_entry-third-requires
-open_entry-third-requires c = let f = contents_fit _ (sym c.wrong_size.ensures ∙ c.if-wrong_size.false) _ c.entry_count-count.ensures in (omega (arith, f), f.1, f.2)
+pub body-requires-3 : goal.body-requires-3
+body-requires-3 c = let i = subst (AllInside c.args.file.now) (sym c.read_entries.ensures ∙ c.in-Ok.is) (inside_told _) in (omega (arith, i), omega (arith, i))
 
-pub returns-in_default-third : goal.returns-in_default-third
-returns-in_default-third c =
-    c.no_bodies-in_default-third.ensures
-    ∙ sym (third_shut _ (sym c.wrong_size.ensures ∙ c.if-wrong_size.false) _ c.entry_count-count.ensures
-    _ _ _ c.open_entry-first.ensures c.in-Open.is
-    _ _ _ c.open_entry-second.ensures c.in-Open-second.is
-    _ c.open_entry-third.ensures c.in_default-third.is _ _ _)
-
-pub open_fourth-fourth-requires : goal.open_fourth-fourth-requires
-open_fourth-fourth-requires c = contents_fit _ (sym c.wrong_size.ensures ∙ c.if-wrong_size.false) _ c.entry_count-count.ensures
-
-pub returns-in_default-fourth : goal.returns-in_default-fourth
-returns-in_default-fourth c =
-    c.no_bodies-in_default-fourth.ensures
-    ∙ sym (fourth_shut _ (sym c.wrong_size.ensures ∙ c.if-wrong_size.false) _ c.entry_count-count.ensures
-    _ _ _ c.open_entry-first.ensures c.in-Open.is
-    _ _ _ c.open_entry-second.ensures c.in-Open-second.is
-    _ _ _ c.open_entry-third.ensures c.in-Open-third.is
-    _ c.open_fourth-fourth.ensures c.in_default-fourth.is _ _ _)
-
-pub slice_bounds-result-count : goal.slice_bounds-result-count
-slice_bounds-result-count c = omega (arith, open_inside _ _ _ _ (sym c.open_entry-first.ensures ∙ c.in-Open.is))
-
-pub slice_bounds-result-start : goal.slice_bounds-result-start
-slice_bounds-result-start c = omega (arith, open_inside _ _ _ _ (sym c.open_entry-first.ensures ∙ c.in-Open.is))
-
-pub slice_bounds-result-end : goal.slice_bounds-result-end
-slice_bounds-result-end c = omega (arith, open_inside _ _ _ _ (sym c.open_entry-first.ensures ∙ c.in-Open.is))
-
-pub slice_bounds-result-count-2 : goal.slice_bounds-result-count-2
-slice_bounds-result-count-2 c = omega (arith, open_inside _ _ _ _ (sym c.open_entry-second.ensures ∙ c.in-Open-second.is))
-
-pub slice_bounds-result-start-2 : goal.slice_bounds-result-start-2
-slice_bounds-result-start-2 c = omega (arith, open_inside _ _ _ _ (sym c.open_entry-second.ensures ∙ c.in-Open-second.is))
-
-pub slice_bounds-result-end-2 : goal.slice_bounds-result-end-2
-slice_bounds-result-end-2 c = omega (arith, open_inside _ _ _ _ (sym c.open_entry-second.ensures ∙ c.in-Open-second.is))
-
-pub slice_bounds-result-count-3 : goal.slice_bounds-result-count-3
-slice_bounds-result-count-3 c = omega (arith, open_inside _ _ _ _ (sym c.open_entry-third.ensures ∙ c.in-Open-third.is))
-
-pub slice_bounds-result-start-3 : goal.slice_bounds-result-start-3
-slice_bounds-result-start-3 c = omega (arith, open_inside _ _ _ _ (sym c.open_entry-third.ensures ∙ c.in-Open-third.is))
-
-pub slice_bounds-result-end-3 : goal.slice_bounds-result-end-3
-slice_bounds-result-end-3 c = omega (arith, open_inside _ _ _ _ (sym c.open_entry-third.ensures ∙ c.in-Open-third.is))
-
-pub slice_bounds-result-count-4 : goal.slice_bounds-result-count-4
-slice_bounds-result-count-4 c = omega (arith, fourth_inside _ _ _ (open_inside _ _ _ _ (sym c.open_entry-third.ensures ∙ c.in-Open-third.is)).1 (sym c.open_fourth-fourth.ensures ∙ c.in-Open-fourth.is))
-
-pub slice_bounds-result-start-4 : goal.slice_bounds-result-start-4
-slice_bounds-result-start-4 c = omega (arith, fourth_inside _ _ _ (open_inside _ _ _ _ (sym c.open_entry-third.ensures ∙ c.in-Open-third.is)).1 (sym c.open_fourth-fourth.ensures ∙ c.in-Open-fourth.is))
-
-pub slice_bounds-result-end-4 : goal.slice_bounds-result-end-4
-slice_bounds-result-end-4 c = omega (arith, fourth_inside _ _ _ (open_inside _ _ _ _ (sym c.open_entry-third.ensures ∙ c.in-Open-third.is)).1 (sym c.open_fourth-fourth.ensures ∙ c.in-Open-fourth.is))
+pub body-requires-4 : goal.body-requires-4
+body-requires-4 c = let i = subst (AllInside c.args.file.now) (sym c.read_entries.ensures ∙ c.in-Ok.is) (inside_told _) in (omega (arith, i), omega (arith, i))
 
 pub returns : goal.returns
 returns c =
-    sym (all_open _ (sym c.wrong_size.ensures ∙ c.if-wrong_size.false) _ c.entry_count-count.ensures
-    _ _ _ c.open_entry-first.ensures c.in-Open.is
-    _ _ _ c.open_entry-second.ensures c.in-Open-second.is
-    _ _ _ c.open_entry-third.ensures c.in-Open-third.is
-    _ _ _ c.open_fourth-fourth.ensures c.in-Open-fourth.is _ _ _)
+    let e = bodies_told c.args.file.now ∙ ap (bodies_in c.args.file.now) (sym c.read_entries.ensures ∙ c.in-Ok.is) in
+    sym (e ∙ simp (c.body.ensures, c.body-2.ensures, c.body-3.ensures, c.body-4.ensures))

@@ -7,9 +7,6 @@ pub returns-then-is_added : goal.returns-then-is_added
 returns-then-is_added c =
     given_added (chosen c.args.set c.args.words.now) (held c.args.added.now c.args.count) c.args.word _ c.is_added.ensures c.if-is_added.true
 
-pub is_listed-requires : goal.is_listed-requires
-is_listed-requires c = c.requires.entered
-
 pub returns : goal.returns
 returns c =
     given_listed (chosen c.args.set c.args.words.now) (held c.args.added.now c.args.count) c.args.word _ _ c.is_added.ensures c.if-is_added.false c.is_listed.ensures

@@ -6,13 +6,14 @@ use Rattle.proof_step.proofs.write_closes.Goals as goal
 
 pub loop-i-init : goal.loop-i-init
 loop-i-init c =
-    (omega arith, refl, closes_start (chosen c.args.set c.args.words.now) c.args.path.now c.args.first c.args.links c.args.node c.args.list.now)
+    record { long = refl; written = closes_start (chosen c.args.set c.args.words.now) c.args.path.now c.args.first c.args.links c.args.node c.args.list.now }
 
 pub loop-i-preserved : goal.loop-i-preserved
-loop-i-preserved c =
-    let put = c.put_step.ensures ∙ closes_more (chosen c.args.set c.args.words.now) c.args.path.now c.args.first c.args.links c.args.node c.args.list.now c.loop-i.i c.loop-i.list _ _ (omega arith) (omega arith) c.loop-i.invariant.2 c.link_at-link.ensures c.close_word-word.ensures in
-    (omega arith, c.put_step.auto.list ∙ c.loop-i.invariant.1, put)
+loop-i-preserved c = record {
+  long = c.put_step.auto.list ∙ c.loop-i.invariant.long;
+  written = c.put_step.ensures ∙ closes_more (chosen c.args.set c.args.words.now) c.args.path.now c.args.first c.args.links c.args.node c.args.list.now c.loop-i.i c.loop-i.list _ _ (omega arith) (omega arith) c.loop-i.invariant.written c.link_at-link.ensures c.close_word-word.ensures;
+}
 
 pub returns : goal.returns
 returns c =
-    closes_end (chosen c.args.set c.args.words.now) c.args.path.now c.args.first c.args.links c.args.node c.args.list.now c.loop-i.i c.loop-i.list (omega arith) (omega arith) c.loop-i.invariant.2
+    closes_end (chosen c.args.set c.args.words.now) c.args.path.now c.args.first c.args.links c.args.node c.args.list.now c.loop-i.i c.loop-i.list (omega arith) (omega arith) c.loop-i.invariant.written

@@ -1,4 +1,3 @@
-use Prim.Native.Nat.{◌-◌, ◌≤◌}
 use mathlib.Core.Path.{◌≡◌}
 use Rattle.theory.specs.Origins.{chosen}
 use lib.ListN.{length}
@@ -8,7 +7,4 @@ use Rattle.proof_form.specs.FromReason.{hops_from}
 use Rattle.proof_step.proofs.write_closes.Given as goal
 
 abbrev pub invariant-loop-i : goal.invariant-loop-i
-invariant-loop-i l = (l.i ≤ l.links) × (length l.list ≡ length l.initial.list) × (l.list ≡ over (close_steps l.node (hops_from (chosen l.set l.words) l.path l.first l.i)) l.initial.list)
-
-abbrev pub decreases-loop-i : goal.decreases-loop-i
-decreases-loop-i l = l.links - l.i
+invariant-loop-i l = record { long : length l.list ≡ length l.initial.list; written : l.list ≡ over (close_steps l.node (hops_from (chosen l.set l.words) l.path l.first l.i)) l.initial.list }

@@ -1,4 +1,3 @@
-use Prim.Native.Nat.{◌-◌, ◌≤◌}
 use mathlib.Core.Path.{◌≡◌}
 use lib.ListN.{length}
 use Rattle.theory_laws.specs.Over.{over}
@@ -6,7 +5,4 @@ use Rattle.proof_step.proofs.Contents.{front}
 use Rattle.proof_step.proofs.write_nested.Given as goal
 
 abbrev pub invariant-loop-i : goal.invariant-loop-i
-invariant-loop-i l = (l.i ≤ l.count) × (length l.list ≡ length l.initial.list) × (l.list ≡ over (front l.base l.step l.count l.i) l.initial.list)
-
-abbrev pub decreases-loop-i : goal.decreases-loop-i
-decreases-loop-i l = l.count - l.i
+invariant-loop-i l = record { long : length l.list ≡ length l.initial.list; written : l.list ≡ over (front l.base l.step l.count l.i) l.initial.list }

@@ -1,7 +1,6 @@
 -- The loop's invariant: the bytes of the pairs so far stand in front, the pairs that are left give the marks that all of them give, and what is held is known.
-use Prim.Native.Nat.{◌≤◌, ◌-◌}
+use Prim.Native.Nat.{◌-◌}
 use mathlib.Core.Path.{◌≡◌}
-use lib.ListN.{length}
 use Rattle.theory_laws.specs.Over.{over}
 use Rattle.theory.specs.Origins.{chosen}
 use Rattle.questions_pair.specs.Holding.{Known}
@@ -11,12 +10,6 @@ use Rattle.questions.proofs.ask_pairs.Given as goal
 
 abbrev pub invariant-loop-i : goal.invariant-loop-i
 invariant-loop-i l =
-    (l.i ≤ pairs_in l.pairs)
-    × (length l.answers ≡ length l.initial.answers)
-    × (length l.marks ≡ length l.initial.marks)
-    × (l.answers ≡ over (answers_from l.o l.n (chosen l.set l.words) l.pairs 0 l.i) l.initial.answers)
+    (l.answers ≡ over (answers_from l.o l.n (chosen l.set l.words) l.pairs 0 l.i) l.initial.answers)
     × (marks_from l.o l.n (chosen l.set l.words) l.pairs 0 (pairs_in l.pairs) l.initial.marks ≡ marks_from l.o l.n (chosen l.set l.words) l.pairs l.i (pairs_in l.pairs - l.i) l.marks)
     × Known l.n (chosen l.set l.words) l.held l.marks
-
-abbrev pub decreases-loop-i : goal.decreases-loop-i
-decreases-loop-i l = pairs_in l.pairs - l.i

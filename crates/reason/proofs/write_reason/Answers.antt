@@ -12,22 +12,6 @@ pub returns-then-far : goal.returns-then-far
 returns-then-far c =
     from_unsupported c.args.n (sign_at c.args.sign) (chosen c.args.set c.args.words.now) c.args.x c.args.places.now c.args.list.now (omega (arith, c.requires.room, c.requires.start)) c.if-far.true
 
-pub overflow_cast-links : goal.overflow_cast-links
-overflow_cast-links c =
-    omega (arith, c.shared_slice_known-3-1.given c.args.x)
-
-pub overflow_cast-size : goal.overflow_cast-size
-overflow_cast-size c =
-    omega (arith, c.shared_slice_known-3-1.given c.args.x)
-
-pub overflow_add-size : goal.overflow_add-size
-overflow_add-size c =
-    omega (arith, c.shared_slice_known-3-1.given c.args.x)
-
-pub overflow_cast-size-2 : goal.overflow_cast-size-2
-overflow_cast-size-2 c =
-    omega (arith, c.shared_slice_known-3-1.given c.args.x)
-
 pub returns-then-list-size : goal.returns-then-list-size
 returns-then-list-size c =
     from_short c.args.n (sign_at c.args.sign) (chosen c.args.set c.args.words.now) c.args.x c.args.places.now c.args.list.now (omega (arith, c.requires.room, c.requires.start)) c.if-far.false c.if-list-size.true

@@ -5,15 +5,6 @@ use Rattle.reason_check.proofs.check_list.Goals as goal
 pub returns-then-is_bad_statement : goal.returns-then-is_bad_statement
 returns-then-is_bad_statement c = simp (sym c.is_bad_statement.ensures ∙ c.if-is_bad_statement.true)
 
-pub is_path-requires : goal.is_path-requires
-is_path-requires c = c.requires
-
-pub returns-then-is_path : goal.returns-then-is_path
-returns-then-is_path c =
-    simp
-    (sym c.is_bad_statement.ensures ∙ c.if-is_bad_statement.false, sym c.is_path.ensures ∙ c.if-is_path.true)
-
 pub returns : goal.returns
 returns c =
-    simp
-    (sym c.is_bad_statement.ensures ∙ c.if-is_bad_statement.false, sym c.is_path.ensures ∙ c.if-is_path.false)
+    simp (sym c.is_bad_statement.ensures ∙ c.if-is_bad_statement.false, sym c.is_path.ensures)

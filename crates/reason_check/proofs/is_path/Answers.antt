@@ -1,7 +1,6 @@
 -- Each return is one test of the shape that fails; past them all the steps decide.
 use mathlib.Core.Path.{sym, ap}
 use mathlib.Core.Bool.{not}
-use native.Mathlib.Omega.{arith}
 use Rattle.theory.specs.Words.{sign_at}
 use Rattle.theory.specs.Origins.{chosen}
 use Rattle.reason_check.proofs.Shape.{short_fails, first_part_fails, length_fails, sign_fails, start_fails, end_fails, steps_decide}
@@ -14,18 +13,6 @@ returns-then-list-lt3 c =
 pub returns-then-first-eq0 : goal.returns-then-first-eq0
 returns-then-first-eq0 c =
     first_part_fails c.args.o c.args.k (chosen c.args.set c.args.words.now) c.args.x c.args.y (sign_at c.args.sign) c.args.list.now c.if-list-lt3.false c.if-first-eq0.true
-
-pub overflow_cast-first : goal.overflow_cast-first
-overflow_cast-first c = omega (arith, c.type_inv.list 0, c.type_inv.list 1)
-
-pub overflow_cast-second : goal.overflow_cast-second
-overflow_cast-second c = omega (arith, c.type_inv.list 0, c.type_inv.list 1)
-
-pub overflow_add-first : goal.overflow_add-first
-overflow_add-first c = omega (arith, c.type_inv.list 0, c.type_inv.list 1)
-
-pub overflow_add-first-2 : goal.overflow_add-first-2
-overflow_add-first-2 c = omega (arith, c.type_inv.list 0, c.type_inv.list 1)
 
 pub returns-then-first-second : goal.returns-then-first-second
 returns-then-first-second c =
@@ -45,13 +32,6 @@ pub returns-then-list-y : goal.returns-then-list-y
 returns-then-list-y c =
     end_fails c.args.o c.args.k (chosen c.args.set c.args.words.now) c.args.x c.args.y (sign_at c.args.sign) c.args.list.now c.if-list-lt3.false c.if-first-eq0.false c.if-first-second.false
     c.goes_with.ensures (ap not c.if-not-goes_with.false) c.if-list-x.false c.if-list-y.true
-
-pub steps_hold-requires : goal.steps_hold-requires
-steps_hold-requires c =
-    record {
-      net = c.requires;
-      long = omega arith;
-    }
 
 pub returns : goal.returns
 returns c =

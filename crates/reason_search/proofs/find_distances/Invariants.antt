@@ -1,5 +1,5 @@
 -- The loop has run i levels.
-use Prim.Native.Nat.{◌+◌, ◌-◌, ◌≤◌}
+use Prim.Native.Nat.{◌+◌}
 use mathlib.Core.Path.{◌≡◌}
 use lib.ListN.{length}
 use Rattle.theory.specs.Words.{sign_at}
@@ -10,7 +10,4 @@ use Rattle.reason_search.proofs.find_distances.Given as goal
 
 abbrev pub invariant-loop-i : goal.invariant-loop-i
 invariant-loop-i l =
-    (l.i ≤ l.n + l.n) × (length l.places ≡ l.n + l.n) × (l.places ≡ levels (arcs l.n (sign_at l.sign) (chosen l.set l.words)) (l.n + l.n) (goal l.n (sign_at l.sign) l.y) l.i)
-
-abbrev pub decreases-loop-i : goal.decreases-loop-i
-decreases-loop-i l = l.n + l.n - l.i
+    (length l.places ≡ l.n + l.n) × (l.places ≡ levels (arcs l.n (sign_at l.sign) (chosen l.set l.words)) (l.n + l.n) (goal l.n (sign_at l.sign) l.y) l.i)

@@ -47,10 +47,6 @@ returns-then-sign-eq0 c =
       kept = c.open_state.ensures.kept;
     }
 
-pub overflow_mul-crossed : goal.overflow_mul-crossed
-overflow_mul-crossed c =
-    omega (arith, crossed_most c.args.word c.args.n, c.requires.few)
-
 pub overflow_add-head : goal.overflow_add-head
 overflow_add-head c =
     let e = ends_inside c.requires.ends c.plain_of-plain.ensures c.tail_of-tail.ensures c.head_of-head.ensures in
@@ -63,10 +59,6 @@ open_state-there-requires c =
       origin = c.requires.ends.origin;
       inside = (omega (arith, e.0, c.requires.room), omega (arith, e.1, crossed_most c.args.word c.args.n, c.requires.room));
     }
-
-pub overflow_sub-n : goal.overflow_sub-n
-overflow_sub-n c =
-    omega (arith, crossed_most c.args.word c.args.n)
 
 pub returns : goal.returns
 returns c =

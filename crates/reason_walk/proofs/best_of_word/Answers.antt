@@ -31,10 +31,6 @@ returns-then-sign-eq0 c =
     word_along (λ (l : List Arc). next l c.args.places.now c.args.state c.args.i) (next_none c.args.places.now c.args.state c.args.i) (next_two c.args.places.now c.args.state c.args.i) c.args.set c.args.n c.args.sign c.args.word c.args.best
     c.plain_of-plain.ensures c.tail_of-tail.ensures c.head_of-head.ensures c.if-sign-eq0.true c.if-word-ne0.false c.better_of.ensures
 
-pub overflow_mul-crossed : goal.overflow_mul-crossed
-overflow_mul-crossed c =
-    omega (arith, crossed_most c.args.word c.args.n, c.requires.few)
-
 pub overflow_add-head : goal.overflow_add-head
 overflow_add-head c =
     let e = ends_inside c.requires.ends c.plain_of-plain.ensures c.tail_of-tail.ensures c.head_of-head.ensures in
@@ -47,10 +43,6 @@ better_of-there-requires c =
       origin = c.requires.ends.origin;
       inside = omega (arith, e.1, crossed_most c.args.word c.args.n, c.requires.room);
     }
-
-pub overflow_sub-from : goal.overflow_sub-from
-overflow_sub-from c =
-    omega (arith, crossed_most c.args.word c.args.n)
 
 pub returns : goal.returns
 returns c =

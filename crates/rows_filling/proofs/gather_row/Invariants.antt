@@ -1,11 +1,7 @@
-use Prim.Native.Nat.{◌-◌, ◌≤◌}
+use Prim.Native.Nat.{◌-◌}
 use mathlib.Core.Path.{◌≡◌}
-use lib.ListN.{length}
 use Rattle.rows_steps.specs.Steps.{gather_words}
 use Rattle.rows_filling.proofs.gather_row.Given as goal
 
 abbrev pub invariant-loop-i : goal.invariant-loop-i
-invariant-loop-i l = (l.i ≤ l.w) × (length l.row ≡ length l.initial.row) × (gather_words l.w l.a 0 l.w l.yeses l.rows l.initial.row ≡ gather_words l.w l.a l.i (l.w - l.i) l.yeses l.rows l.row)
-
-abbrev pub decreases-loop-i : goal.decreases-loop-i
-decreases-loop-i l = l.w - l.i
+invariant-loop-i l = gather_words l.w l.a 0 l.w l.yeses l.rows l.initial.row ≡ gather_words l.w l.a l.i (l.w - l.i) l.yeses l.rows l.row

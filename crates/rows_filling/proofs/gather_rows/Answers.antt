@@ -1,8 +1,7 @@
 use Prim.Native.Nat.{ℕ, ◌+◌, ◌-◌, ◌*◌}
-use mathlib.Core.Path.{refl, sym, ap, ◌∙◌}
+use mathlib.Core.Path.{sym, ap, ◌∙◌}
 use mathlib.Core.List.{List}
 use native.Mathlib.Omega.{arith}
-use borrow.Author.Rules.{rules}
 use Rattle.rows_steps.specs.Rows.{gain}
 use Rattle.rows_steps.specs.Steps.{gather}
 use Rattle.rows_steps.proofs.Places.{row_ends}
@@ -11,7 +10,7 @@ use Rattle.rows_filling.proofs.gather_rows.Goals as goal
 
 pub loop-x-init : goal.loop-x-init
 loop-x-init c =
-    (search rules, refl, ap (λ (j : ℕ). gather c.args.w 0 j c.args.yeses.now c.args.rows.now) (omega arith))
+    ap (λ (j : ℕ). gather c.args.w 0 j c.args.yeses.now c.args.rows.now) (omega arith)
 
 pub overflow_mul-a : goal.overflow_mul-a
 overflow_mul-a c =
@@ -20,23 +19,20 @@ overflow_mul-a c =
 pub gather_row-requires : goal.gather_row-requires
 gather_row-requires c =
     let ends = row_ends c.args.w c.loop-x.x c.args.n (omega arith) in
-    (omega (arith, c.requires.0), c.requires.2, omega (arith, c.loop-x.invariant.1, c.requires.1), c.requires.2, λ q. c.requires.3 c.loop-x.x q (omega arith))
+    (omega (arith, c.requires.0), c.requires.2, omega (arith, c.loop-x.auto.rows, c.requires.1), c.requires.2, λ q. c.requires.3 c.loop-x.x q (omega arith))
 
 pub join_rows-requires : goal.join_rows-requires
 join_rows-requires c =
     let ends = row_ends c.args.w c.loop-x.x c.args.n (omega arith) in
-    (omega (arith, c.loop-x.invariant.1, c.requires.1), omega (arith, c.gather_row.auto.row, c.requires.2))
+    (omega (arith, c.loop-x.auto.rows, c.requires.1), omega (arith, c.gather_row.auto.row, c.requires.2))
 
 pub loop-x-preserved : goal.loop-x-preserved
-loop-x-preserved c = (
-  omega arith,
-  c.join_rows.auto.rows ∙ c.loop-x.invariant.1,
-  c.loop-x.invariant.2
-      ∙ gather_go c.args.w c.args.n c.loop-x.x c.args.yeses.now c.loop-x.rows (omega arith)
-      ∙ ap (gather c.args.w (c.loop-x.x + 1) (c.args.n - (c.loop-x.x + 1)) c.args.yeses.now)
-      (sym (c.join_rows.ensures ∙ ap (λ (q : List ℕ). gain (c.loop-x.x * c.args.w) 0 c.args.w q c.loop-x.rows) c.gather_row.ensures)),
-)
+loop-x-preserved c =
+    c.loop-x.invariant
+    ∙ gather_go c.args.w c.args.n c.loop-x.x c.args.yeses.now c.loop-x.rows (omega arith)
+    ∙ ap (gather c.args.w (c.loop-x.x + 1) (c.args.n - (c.loop-x.x + 1)) c.args.yeses.now)
+    (sym (c.join_rows.ensures ∙ ap (λ (q : List ℕ). gain (c.loop-x.x * c.args.w) 0 c.args.w q c.loop-x.rows) c.gather_row.ensures))
 
 pub returns : goal.returns
 returns c =
-    sym (c.loop-x.invariant.2 ∙ gather_end c.args.w c.args.n c.loop-x.x c.args.yeses.now c.loop-x.rows (omega arith))
+    sym (c.loop-x.invariant ∙ gather_end c.args.w c.args.n c.loop-x.x c.args.yeses.now c.loop-x.rows (omega arith))

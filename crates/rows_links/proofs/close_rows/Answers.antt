@@ -2,14 +2,13 @@ use Prim.Native.Nat.{ℕ, ◌+◌, ◌-◌}
 use mathlib.Core.Path.{refl, sym, ap, ◌∙◌}
 use mathlib.Core.List.{List}
 use native.Mathlib.Omega.{arith}
-use borrow.Author.Rules.{rules}
 use Rattle.rows_steps.specs.Steps.{through, middles}
 use Rattle.rows_steps.proofs.Places.{row_ends}
 use Rattle.rows_links.proofs.Closing.{middles_go, middles_end}
 use Rattle.rows_links.proofs.close_rows.Goals as goal
 
 pub loop-m-init : goal.loop-m-init
-loop-m-init c = (search rules, search rules, refl, refl)
+loop-m-init c = refl
 
 pub overflow_mul-m : goal.overflow_mul-m
 overflow_mul-m c =
@@ -19,24 +18,17 @@ pub join_rows-requires : goal.join_rows-requires
 join_rows-requires c =
     (omega arith, omega (arith, row_ends c.args.w c.loop-m.m c.args.n (omega arith)))
 
-pub slice_bounds-pass_through-end : goal.slice_bounds-pass_through-end
-slice_bounds-pass_through-end c = search rules
-
 pub pass_through-requires : goal.pass_through-requires
 pass_through-requires c =
-    (omega arith, c.requires.1, omega (arith, c.loop-m.invariant.2, c.requires.3), omega (arith, c.join_rows.auto.rows, c.requires.2))
+    (omega arith, c.requires.1, omega (arith, c.loop-m.auto.rows, c.requires.3), omega (arith, c.join_rows.auto.rows, c.requires.2))
 
 pub loop-m-preserved : goal.loop-m-preserved
-loop-m-preserved c = (
-  omega arith,
-  omega arith,
-  c.pass_through.auto.rows ∙ c.loop-m.invariant.2,
-  c.loop-m.invariant.3
-      ∙ middles_go c.args.w c.args.n c.loop-m.m c.loop-m.rows (omega arith)
-      ∙ ap (middles c.args.w c.args.n (c.loop-m.m + 1) (c.args.n - (c.loop-m.m + 1)))
-      (sym (c.pass_through.ensures ∙ ap (λ (q : List ℕ). through c.args.w c.loop-m.m q 0 c.args.n c.loop-m.rows) c.join_rows.ensures)),
-)
+loop-m-preserved c =
+    c.loop-m.invariant
+    ∙ middles_go c.args.w c.args.n c.loop-m.m c.loop-m.rows (omega arith)
+    ∙ ap (middles c.args.w c.args.n (c.loop-m.m + 1) (c.args.n - (c.loop-m.m + 1)))
+    (sym (c.pass_through.ensures ∙ ap (λ (q : List ℕ). through c.args.w c.loop-m.m q 0 c.args.n c.loop-m.rows) c.join_rows.ensures))
 
 pub returns : goal.returns
 returns c =
-    sym (c.loop-m.invariant.3 ∙ middles_end c.args.w c.args.n c.loop-m.m c.loop-m.rows (omega arith))
+    sym (c.loop-m.invariant ∙ middles_end c.args.w c.args.n c.loop-m.m c.loop-m.rows (omega arith))

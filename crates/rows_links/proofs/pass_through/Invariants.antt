@@ -1,11 +1,7 @@
-use Prim.Native.Nat.{◌-◌, ◌≤◌}
+use Prim.Native.Nat.{◌-◌}
 use mathlib.Core.Path.{◌≡◌}
-use lib.ListN.{length}
 use Rattle.rows_steps.specs.Steps.{through}
 use Rattle.rows_links.proofs.pass_through.Given as goal
 
 abbrev pub invariant-loop-x : goal.invariant-loop-x
-invariant-loop-x l = (l.x ≤ l.n) × (length l.rows ≡ length l.initial.rows) × (through l.w l.m l.row 0 l.n l.initial.rows ≡ through l.w l.m l.row l.x (l.n - l.x) l.rows)
-
-abbrev pub decreases-loop-x : goal.decreases-loop-x
-decreases-loop-x l = l.n - l.x
+invariant-loop-x l = through l.w l.m l.row 0 l.n l.initial.rows ≡ through l.w l.m l.row l.x (l.n - l.x) l.rows

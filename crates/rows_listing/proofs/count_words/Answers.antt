@@ -4,14 +4,13 @@ use lib.ListN.{length}
 use Rattle.rows_steps.specs.Listing.{all_pairs}
 use Rattle.rows_steps.proofs.Places.{row_ends}
 use Rattle.rows_listing.proofs.Going.{all_end, count_go}
-use borrow.Author.Rules.{rules}
 use native.Mathlib.Omega.{arith}
 use Rattle.rows_listing.proofs.count_words.Goals as goal
 
 pub loop-x-init : goal.loop-x-init
 loop-x-init c =
     let e : c.args.n - 0 ≡ c.args.n = omega arith in
-    (search rules, omega (arith, ap (λ (j : ℕ). length (all_pairs c.args.w 0 j c.args.yeses.now c.args.noes.now)) e), search rules)
+    (omega (arith, ap (λ (j : ℕ). length (all_pairs c.args.w 0 j c.args.yeses.now c.args.noes.now)) e), omega arith)
 
 pub overflow_mul-a : goal.overflow_mul-a
 overflow_mul-a c =
@@ -34,7 +33,7 @@ overflow_add-size-in-loop-x c = omega (arith, c.row_size-some.ensures.1, c.row_s
 pub loop-x-preserved : goal.loop-x-preserved
 loop-x-preserved c =
     let next = count_go c.args.w c.args.n c.loop-x.x c.args.yeses.now c.args.noes.now (omega arith) (λ i. (c.type_inv.yeses i).fits) (λ i. (c.type_inv.noes i).fits) in
-    (omega arith, omega (arith, c.row_size-some.ensures.0, c.row_size-more.ensures.0, next), omega (arith, c.row_size-some.ensures.1, c.row_size-more.ensures.1))
+    (omega (arith, c.row_size-some.ensures.0, c.row_size-more.ensures.0, next), omega (arith, c.row_size-some.ensures.1, c.row_size-more.ensures.1))
 
 pub returns : goal.returns
 returns c =

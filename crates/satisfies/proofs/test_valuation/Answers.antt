@@ -2,7 +2,7 @@
 use Prim.Native.Nat.{◌+◌}
 use mathlib.Core.Path.{refl, sym, ◌∙◌}
 use Rattle.net.proofs.Good.{good_statement}
-use Rattle.satisfies.proofs.Outcomes.{table_long, test_many, test_bad, test_table, test_holds, test_fails}
+use Rattle.satisfies.proofs.Outcomes.{table_long, test_many, test_bad, test_table, test_told}
 use Rattle.satisfies.proofs.test_valuation.Goals as goal
 
 pub returns-then-n-gt-NODE_LIMIT : goal.returns-then-n-gt-NODE_LIMIT
@@ -23,12 +23,7 @@ holds_in-requires c =
     let t = ((good_statement c.args.o (c.args.o + c.args.k) c.args.x c.args.y c.args.sign).0 (sym c.is_bad_statement.ensures ∙ c.if-is_bad_statement.false)).pair in
     (refl, c.if-n-gt-NODE_LIMIT.false, t.node, t.low, t.high, table_long (c.args.o + c.args.k) c.args.k c.args.table.now c.is_bad_table.ensures c.if-is_bad_table.false)
 
-pub returns-then-holds_in : goal.returns-then-holds_in
-returns-then-holds_in c =
-    test_holds c.args.o c.args.k c.args.table.now c.args.x c.args.y c.args.sign c.if-n-gt-NODE_LIMIT.false c.is_bad_statement.ensures c.if-is_bad_statement.false
-    c.is_bad_table.ensures c.if-is_bad_table.false c.holds_in.ensures c.if-holds_in.true
-
 pub returns : goal.returns
 returns c =
-    test_fails c.args.o c.args.k c.args.table.now c.args.x c.args.y c.args.sign c.if-n-gt-NODE_LIMIT.false c.is_bad_statement.ensures c.if-is_bad_statement.false
-    c.is_bad_table.ensures c.if-is_bad_table.false c.holds_in.ensures c.if-holds_in.false
+    test_told c.args.o c.args.k c.args.table.now c.args.x c.args.y c.args.sign c.if-n-gt-NODE_LIMIT.false c.is_bad_statement.ensures c.if-is_bad_statement.false
+    c.is_bad_table.ensures c.if-is_bad_table.false c.holds_in.ensures

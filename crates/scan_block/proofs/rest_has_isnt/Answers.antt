@@ -1,13 +1,17 @@
-use native.Mathlib.Omega.{arith}
-use Rattle.scan_block.proofs.Blocks.{no_isnt_more}
+-- The search found no word from the first one on that says "is not".
+use mathlib.Core.Path.{◌≡◌}
+use borrow.Author.Rules.{rules}
+use borrow.Author.Tests.{tests}
+use lib.ListN.{length}
+use Rattle.std.specs.List.{between}
+use Rattle.std.proofs.lemmas.Iterator.{cases_from_any, YieldsList-from_slice}
+use Rattle.theory.specs.Words.{parity}
+use Rattle.scan_block.proofs.Blocks.{no_isnt_rest}
 use Rattle.scan_block.proofs.rest_has_isnt.Goals as goal
 
-pub loop-i-init : goal.loop-i-init
-loop-i-init c = (c.requires, λ h. h)
-
-pub loop-i-preserved : goal.loop-i-preserved
-loop-i-preserved c =
-    (omega (arith, c.loop-i-test.true), λ h. no_isnt_more c.args.words.now c.loop-i.i (c.loop-i.invariant.1 h) (λ q. omega arith))
-
 pub returns : goal.returns
-returns c e h j l = c.loop-i.invariant.1 h j (omega arith)
+returns c e =
+    let ws = c.args.words.now in
+    let found = cases_from_any _ _ _ (λ x. parity x ≡ 1) (λ x. parity x ≡ 1 → ⊥) c.any.ensures.ran
+    (YieldsList-from_slice (between c.args.from (length ws) ws) cc) (λ x q k. search (rules, tests)) (λ x q k. search (rules, tests)) in
+    no_isnt_rest ws c.args.from (rw e at found)

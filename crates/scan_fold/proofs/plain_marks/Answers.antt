@@ -1,14 +1,8 @@
 use native.Mathlib.Omega.{arith}
-use Rattle.scan_fold.proofs.Loops.{changed_none, changed_go, changed_all}
+use Rattle.scan_lanes.specs.Codes.{is_marks}
+use Rattle.scan_fold.proofs.Loops.{nodes_each}
 use Rattle.scan_fold.proofs.plain_marks.Goals as goal
-use Rattle.scan_fold.proofs.plain_marks.Invariants.{change}
-
-pub loop-v-init : goal.loop-v-init
-loop-v-init c = changed_none change c.args.n c.args.marks.now
-
-pub loop-v-preserved : goal.loop-v-preserved
-loop-v-preserved c =
-    changed_go change c.args.n c.args.marks.now c.loop-v.marks c.loop-v.v c.loop-v.invariant c.is_marks.result c.is_marks.ensures (omega arith) (omega arith)
 
 pub returns : goal.returns
-returns c = changed_all change c.args.n c.args.marks.now c.loop-v.marks c.loop-v.v c.loop-v.invariant (omega arith)
+returns c =
+    nodes_each is_marks c.args.n c.args.marks.now c.change_each.new.marks (omega arith) (omega arith) c.change_each.ensures.changed c.change_each.ensures.past

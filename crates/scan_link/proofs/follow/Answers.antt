@@ -13,18 +13,15 @@ overflow_mul-marks-then-open-ne0 c =
     omega (
       arith,
       found_few c.args.word c.args.marks.now c.plain_of-plain.ensures c.tail_of-tail.ensures c.head_of-head.ensures
-          c.args.set c.args.sign c.lanes_of.ensures,
+          c.args.lanes.now.set c.args.lanes.now.sign c.lanes_of.ensures,
     )
-
-pub overflow_sub-marks-then-open-ne0 : goal.overflow_sub-marks-then-open-ne0
-overflow_sub-marks-then-open-ne0 c = omega (arith, overflow_mul-marks-then-open-ne0 c)
 
 pub returns-then-open-ne0 : goal.returns-then-open-ne0
 returns-then-open-ne0 c =
     follow_puts c.args.word c.args.marks.now c.plain_of-plain.ensures c.tail_of-tail.ensures c.head_of-head.ensures
-    c.args.set c.args.sign c.lanes_of.ensures c.if-open-ne0.true
+    c.args.lanes.now.set c.args.lanes.now.sign c.lanes_of.ensures c.if-open-ne0.true
 
 pub returns-else-open-ne0 : goal.returns-else-open-ne0
 returns-else-open-ne0 c =
     follow_idle c.args.word c.args.marks.now c.plain_of-plain.ensures c.tail_of-tail.ensures c.head_of-head.ensures
-    c.args.set c.args.sign c.lanes_of.ensures c.if-open-ne0.false
+    c.args.lanes.now.set c.args.lanes.now.sign c.lanes_of.ensures c.if-open-ne0.false

@@ -1,30 +1,23 @@
-use Prim.Native.Nat.{◌+◌}
-use mathlib.Core.Path.{◌≡◌, refl, sym}
+use Prim.Native.Nat.{◌+◌, ◌-◌}
+use mathlib.Core.Path.{◌≡◌, sym}
 use native.Mathlib.Omega.{arith}
-use Rattle.theory.proofs.origins.Statements.{inside_from_at}
-use Rattle.scan_pass.proofs.Links.{lane_more}
+use Rattle.scan_pass.proofs.Links.{part_ends, part_more, part_end}
 use Rattle.scan_pass.proofs.closed_words.Goals as goal
-
-pub loop-k-init : goal.loop-k-init
-loop-k-init c = let e : c.args.from + 0 ≡ c.args.from = omega arith in (omega arith, λ set sign. rw e refl)
 
 pub is_closed-requires : goal.is_closed-requires
 is_closed-requires c =
     record {
-      ends = inside_from_at c.args.words.now c.requires.inside (c.args.from + c.loop-k.k) (omega (arith, c.requires.block));
+      ends = part_ends c.args.pass.now.words.now c.args.from _ c.loop-k.k (omega (arith, c.requires.block)) c.loop-k-test.true c.args.pass.now.inside;
       room = c.requires.room;
     }
 
 pub loop-k-preserved : goal.loop-k-preserved
-loop-k-preserved c = (
-  omega (arith, c.loop-k-test.true),
-  λ set sign.
-      lane_more set sign c.args.words.now (c.args.from + c.loop-k.k) c.args.marks.now (c.loop-k.invariant.1 set sign) (omega (arith, c.loop-k-test.true, c.requires.block))
-      (sym (c.is_closed.ensures (cc) set sign)) {j = c.args.from + (c.loop-k.k + 1)} (omega arith),
-)
+loop-k-preserved c set sign =
+    part_more c.args.pass.now.words.now c.args.from _ c.loop-k.k (omega (arith, c.requires.block)) c.loop-k-test.true set sign c.args.marks.now
+    (c.loop-k.invariant set sign) (sym (c.is_closed.ensures c.if-not-is_closed.false set sign))
 
 pub returns : goal.returns
-returns c = record {
-  idle = c.loop-k.invariant.1;
-  upper_bound = c.loop-k.invariant.0;
-}
+returns c =
+    let e : c.loop-k.k ≡ c.args.from + 8 - c.args.from = part_end c.args.pass.now.words.now c.args.from _ c.loop-k.k (omega (arith, c.requires.block)) c.loop-k.auto.k-end c.loop-k-test.false in
+    let f : c.loop-k.k ≡ 8 = omega (arith, e) in
+    record { idle = λ set sign. rw f at (c.loop-k.invariant set sign); upper_bound = omega arith }

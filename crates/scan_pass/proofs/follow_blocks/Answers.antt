@@ -1,28 +1,31 @@
-use mathlib.Core.Path.{◌≡◌, refl, ◌∙◌}
+use Prim.Native.Nat.{◌+◌, ◌*◌}
+use mathlib.Core.Path.{◌≡◌, ◌∙◌}
 use native.Mathlib.Omega.{arith}
+use Rattle.scan_pass.proofs.Blocks.{blocks_count, block_ends, block_more}
 use Rattle.scan_pass.proofs.follow_blocks.Goals as goal
 
-pub loop-i-init : goal.loop-i-init
-loop-i-init c = (c.requires.blocks.0, c.requires.blocks.1, refl, refl)
+pub follow-requires-clause-ends : goal.follow-requires-clause-ends
+follow-requires-clause-ends c =
+    block_ends c.args.pass.now.words.now c.args.from _ (omega arith) c.as_chunks.ensures.front c.as_chunks.ensures.front_len
+    c.loop-block.block-index c.loop-block-test.true c.loop-word.word-index c.loop-word-test.true c.args.pass.now.inside
 
-pub follow_block-requires : goal.follow_block-requires
-follow_block-requires c =
-    record {
-      table = c.requires.table;
-      inside = c.requires.inside;
-      block = omega (arith, c.loop-i-test.true, c.loop-i.invariant.1, c.requires.blocks.2);
-      room = omega (arith, c.loop-i.invariant.2, c.requires.room);
-    }
-
-pub loop-i-preserved : goal.loop-i-preserved
-loop-i-preserved c = (
-  omega (arith, c.loop-i-test.true, c.loop-i.invariant.1),
-  omega (arith, c.loop-i-test.true, c.loop-i.invariant.1),
-  c.follow_block.auto.marks ∙ c.loop-i.invariant.2,
-  c.loop-i.invariant.3 ∙ c.follow_block.ensures,
+pub loop-word-preserved : goal.loop-word-preserved
+loop-word-preserved c = (
+  c.follow.auto.marks ∙ c.loop-word.invariant.0,
+  block_more c.args.pass.now.words.now c.args.from _ (omega arith) c.as_chunks.ensures.front c.as_chunks.ensures.front_len
+      c.loop-block.block-index c.loop-block-test.true c.loop-word.word-index c.loop-word-test.true
+      c.args.pass.now.lanes.set c.args.pass.now.lanes.sign c.loop-word.marks c.loop-word.invariant.1 c.follow.ensures,
 )
+
+pub loop-block-preserved : goal.loop-block-preserved
+loop-block-preserved c =
+    let e : c.args.from + 8 * c.loop-block.block-index + c.loop-word.word-index ≡ c.args.from + 8 * (c.loop-block.block-index + 1) = omega arith in (
+      c.loop-word.invariant.0 ∙ c.loop-block.invariant.0,
+      c.loop-block.invariant.1 ∙ rw e at c.loop-word.invariant.1,
+    )
 
 pub returns : goal.returns
 returns c =
-    let e : c.loop-i.i ≡ c.args.to = omega (arith, c.loop-i.invariant.0) in
-    rw e at c.loop-i.invariant.3
+    let n = blocks_count c.args.pass.now.words.now c.args.from _ (omega arith) c.as_chunks.ensures.front c.as_chunks.ensures.front_len in
+    let e : c.args.from + 8 * c.loop-block.block-index ≡ c.args.to = omega (arith, n) in
+    rw e at c.loop-block.invariant.1

@@ -1,15 +1,17 @@
--- The blocks up to the one that the loop has come to were followed.
-use Prim.Native.Nat.{◌-◌, ◌%◌, ◌≤◌}
+-- The blocks up to the one that the loop has come to were followed, and its words up to the one that the inner loop has come to.
+use Prim.Native.Nat.{◌+◌, ◌*◌}
 use mathlib.Core.Path.{◌≡◌}
 use lib.ListN.{length, drop}
 use Rattle.theory.specs.Origins.{chosen}
 use Rattle.scan_lanes.specs.Lanes.{lane_pass}
 use Rattle.scan_pass.proofs.follow_blocks.Given as goal
 
-abbrev pub invariant-loop-i : goal.invariant-loop-i
-invariant-loop-i l =
-    (l.i ≤ l.to) × ((l.to - l.i) % 8 ≡ 0) × (length l.marks ≡ length l.initial.marks)
-    × (lane_pass l.sign (chosen l.set (drop l.from l.words)) l.initial.marks ≡ lane_pass l.sign (chosen l.set (drop l.i l.words)) l.marks)
+abbrev pub invariant-loop-block : goal.invariant-loop-block
+invariant-loop-block l =
+    (length l.marks ≡ length l.initial.marks)
+    × (lane_pass l.pass.lanes.sign (chosen l.pass.lanes.set (drop l.from l.pass.words.now)) l.initial.marks ≡ lane_pass l.pass.lanes.sign (chosen l.pass.lanes.set (drop (l.from + 8 * l.block-index) l.pass.words.now)) l.marks)
 
-abbrev pub decreases-loop-i : goal.decreases-loop-i
-decreases-loop-i l = l.to - l.i
+abbrev pub invariant-loop-word : goal.invariant-loop-word
+invariant-loop-word l =
+    (length l.marks ≡ length l.initial.marks)
+    × (lane_pass l.pass.lanes.sign (chosen l.pass.lanes.set (drop (l.from + 8 * l.block-index) l.pass.words.now)) l.initial.marks ≡ lane_pass l.pass.lanes.sign (chosen l.pass.lanes.set (drop (l.from + 8 * l.block-index + l.word-index) l.pass.words.now)) l.marks)

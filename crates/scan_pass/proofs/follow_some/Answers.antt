@@ -1,43 +1,25 @@
-use Prim.Native.Nat.{◌+◌, ◌≤◌}
-use mathlib.Core.Path.{refl, sym, ◌∙◌}
+use Prim.Native.Nat.{◌+◌, ◌*◌, ◌/◌, ◌≤◌}
+use mathlib.Core.Path.{◌≡◌, sym, ◌∙◌}
 use native.Mathlib.Omega.{arith}
 use lib.ListN.{length}
 use Rattle.scan_pass.proofs.Passed.{words_passed}
 use Rattle.scan_pass.proofs.follow_some.Goals as goal
+use Rattle.scan_pass.proofs.follow_some.Goals.{then-has_sign, else-has_sign}
 
-pub loop-i-init : goal.loop-i-init
-loop-i-init c = (omega arith, omega arith, refl, refl)
-
-pub has_sign-requires : goal.has_sign-requires
-has_sign-requires c = omega (arith, c.loop-i-test.true, c.loop-i.invariant.0)
-
-pub follow_blocks-requires : goal.follow_blocks-requires
-follow_blocks-requires c =
-    record {
-      table = c.requires.table;
-      inside = c.requires.inside;
-      blocks = (omega arith, omega arith, omega (arith, c.loop-i-test.true, c.loop-i.invariant.0));
-      room = omega (arith, c.loop-i.invariant.2, c.requires.room);
-    }
-
-pub loop-i-preserved : goal.loop-i-preserved
-loop-i-preserved c =
-    let room : c.loop-i.i + 8 ≤ length c.args.words.now = omega (arith, c.loop-i-test.true, c.loop-i.invariant.0) in (
-      omega (arith, c.loop-i.invariant.0),
-      omega (arith, c.loop-i-test.true, c.loop-i.invariant.0),
-      c.loop-i.invariant.2,
-      c.loop-i.invariant.3 ∙ words_passed c.args.set c.args.sign c.args.words.now c.loop-i.marks 8 c.loop-i.i room (c.has_sign.ensures (cc)),
+pub loop-block-preserved : goal.loop-block-preserved
+loop-block-preserved c =
+    let room : c.loop-block.block * 8 + 8 ≤ length c.args.pass.now.words.now = omega arith in
+    let e : (c.loop-block.block + 1) * 8 ≡ c.loop-block.block * 8 + 8 = omega arith in (
+      c.if-has_sign.auto.marks ∙ c.loop-block.invariant.0,
+      c.loop-block.invariant.1 ∙ rw e (elim c.if-has_sign.branch [
+        | then-has_sign w ↦ rw w.marks-is w.follow_blocks.ensures
+        | else-has_sign w ↦
+            rw w.marks-is (words_passed c.args.pass.now.lanes.set c.args.pass.now.lanes.sign c.args.pass.now.words.now c.loop-block.marks 8 (c.loop-block.block * 8) room
+            (c.has_sign.ensures w.if-has_sign.false))
+      ]),
     )
-
-pub follow_rest-requires : goal.follow_rest-requires
-follow_rest-requires c =
-    record {
-      table = c.requires.table;
-      inside = c.requires.inside;
-      rest = omega (arith, c.loop-i.invariant.1);
-      room = omega (arith, c.loop-i.invariant.2, c.requires.room);
-    }
 
 pub returns : goal.returns
 returns c =
-    c.follow_rest.ensures ∙ sym c.loop-i.invariant.3
+    let e : c.loop-block.block ≡ length c.args.pass.now.words.now / 8 = omega arith in
+    c.follow_rest.ensures ∙ sym (rw e at c.loop-block.invariant.1)

@@ -10,32 +10,28 @@ use Rattle.scan_round.proofs.round.Goals as goal
 pub run_is-new-requires : goal.run_is-new-requires
 run_is-new-requires c =
     record {
-      table = c.requires.is_table;
-      inside = c.requires.inside;
       room = c.requires.room;
       written = c.requires.written;
     }
 
 pub returns-then-not-first-came : goal.returns-then-not-first-came
 returns-then-not-first-came c =
-    let idle : ((c.args.first || has 6 c.run_is-new.result) && c.args.signs.isnts) ≡ false = cc in
+    let idle : ((c.args.first || has 6 c.run_is-new.result) && c.args.plan.now.signs.isnts) ≡ false = cc in
     let t =
-    round_passed c.args.n c.args.set c.args.words.now c.args.marks.now c.requires.inside c.requires.room c.run_is-new.new.marks c.run_is-new.ensures.marks_after c.run_is-new.result c.run_is-new.ensures.decides
-    c.args.first c.args.signs.isnts c.requires.isnts c.requires.passed c.run_is-new.ensures.v_value (ap not idle) in
+    round_passed c.args.plan.now.n c.args.plan.now.set c.args.plan.now.words.now c.args.marks.now c.args.plan.now.inside c.requires.room c.run_is-new.new.marks c.run_is-new.ensures.marks_after c.run_is-new.result c.run_is-new.ensures.decides
+    c.args.first c.args.plan.now.signs.isnts c.args.plan.now.isnts c.requires.passed c.run_is-new.ensures.v_value (ap not idle) in
     record { marks_after = t.0; set = t.1.0; quiet = t.1.1 }
 
 pub run_isnt-crossed-requires : goal.run_isnt-crossed-requires
 run_isnt-crossed-requires c =
     record {
-      table = c.requires.isnt_table;
-      inside = c.requires.inside;
-      room = ran_room c.args.n c.args.set c.args.words.now c.args.marks.now c.requires.inside c.requires.room is_commands puts_is c.run_is-new.new.marks c.run_is-new.ensures.marks_after;
-      written = ran_written c.args.n c.args.set c.args.words.now c.args.marks.now c.requires.inside c.requires.room is_commands puts_is c.run_is-new.new.marks c.run_is-new.ensures.marks_after;
+      room = ran_room c.args.plan.now.n c.args.plan.now.set c.args.plan.now.words.now c.args.marks.now c.args.plan.now.inside c.requires.room is_commands puts_is c.run_is-new.new.marks c.run_is-new.ensures.marks_after;
+      written = ran_written c.args.plan.now.n c.args.plan.now.set c.args.plan.now.words.now c.args.marks.now c.args.plan.now.inside c.requires.room is_commands puts_is c.run_is-new.new.marks c.run_is-new.ensures.marks_after;
     }
 
 pub returns : goal.returns
 returns c =
     let t =
-    round_run c.args.n c.args.set c.args.words.now c.args.marks.now c.requires.inside c.requires.room c.run_is-new.new.marks c.run_is-new.ensures.marks_after c.run_is-new.result c.run_is-new.ensures.decides
+    round_run c.args.plan.now.n c.args.plan.now.set c.args.plan.now.words.now c.args.marks.now c.args.plan.now.inside c.requires.room c.run_is-new.new.marks c.run_is-new.ensures.marks_after c.run_is-new.result c.run_is-new.ensures.decides
     c.run_isnt-crossed.new.marks c.run_isnt-crossed.result c.run_isnt-crossed.ensures.marks_after c.run_isnt-crossed.ensures.decides in
     record { marks_after = t.0; set = t.1.0; quiet = t.1.1 }

@@ -2,17 +2,9 @@
 use Rattle.scan_round.proofs.Running.{ran_is}
 use Rattle.scan_round.proofs.run_is.Goals as goal
 
-pub run_pass-requires : goal.run_pass-requires
-run_pass-requires c =
-    record {
-      table = c.requires.table;
-      inside = c.requires.inside;
-      room = c.requires.room;
-    }
-
 pub returns : goal.returns
 returns c =
     let t =
-    ran_is c.args.n c.args.set c.args.words.now c.args.marks.now c.requires.inside c.requires.room c.run_pass.new.marks c.fold_is.new.marks c.fold_is.result c.requires.written
+    ran_is c.args.plan.now.n c.args.plan.now.set c.args.plan.now.words.now c.args.marks.now c.args.plan.now.inside c.requires.room c.run_pass.new.marks c.fold_is.new.marks c.fold_is.result c.requires.written
     c.run_pass.ensures c.fold_is.ensures.marks_after c.fold_is.ensures.by_index in
     record { marks_after = t.0; decides = t.1.0; v_value = t.1.1 }

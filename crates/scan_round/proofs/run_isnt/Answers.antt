@@ -1,19 +1,10 @@
 -- The bytes written for it, the pass over "is not", folded, is the last two commands of a round.
-use native.Mathlib.Omega.{arith}
 use Rattle.scan_round.proofs.Running.{ran_isnt}
 use Rattle.scan_round.proofs.run_isnt.Goals as goal
-
-pub run_pass-requires : goal.run_pass-requires
-run_pass-requires c =
-    record {
-      table = c.requires.table;
-      inside = c.requires.inside;
-      room = omega arith;
-    }
 
 pub returns : goal.returns
 returns c =
     let t =
-    ran_isnt c.args.n c.args.set c.args.words.now c.args.marks.now c.requires.inside c.requires.room c.code_isnt.new.marks c.run_pass.new.marks c.fold_isnt.new.marks
+    ran_isnt c.args.plan.now.n c.args.plan.now.set c.args.plan.now.words.now c.args.marks.now c.args.plan.now.inside c.requires.room c.code_isnt.new.marks c.run_pass.new.marks c.fold_isnt.new.marks
     c.fold_isnt.result c.code_isnt.ensures c.run_pass.ensures c.fold_isnt.ensures.marks_after c.fold_isnt.ensures.by_index in
     record { marks_after = t.0; decides = t.1 }

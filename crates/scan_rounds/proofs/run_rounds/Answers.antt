@@ -8,10 +8,6 @@ use Rattle.scan_rounds.proofs.run_rounds.Goals as goal
 
 pub run_written-ran-requires : goal.run_written-ran-requires
 run_written-ran-requires c = record {
-  is_table = c.table_of-is_table.ensures;
-  isnt_table = c.table_of-isnt_table.ensures;
-  isnts = c.signs_of-signs.ensures;
-  inside = c.requires.inside;
   room = omega arith;
   written = written_so c.args.n c.code_is.new.marks c.args.marks.now c.code_is.ensures c.requires.low;
 }

@@ -1,5 +1,5 @@
 -- The rounds still in the budget, from the marks as they are, give what the whole budget gives from the marks at the beginning.
-use Prim.Native.Nat.{◌-◌, ◌≤◌}
+use Prim.Native.Nat.{◌-◌}
 use mathlib.Core.Path.{◌≡◌}
 use mathlib.Core.Bool.{false}
 use lib.Dec.{eqb}
@@ -14,11 +14,8 @@ use Rattle.scan_rounds.proofs.run_written.Given as goal
 
 abbrev pub invariant-loop-count : goal.invariant-loop-count
 invariant-loop-count l =
-    (l.count ≤ l.budget) × (length l.marks ≡ length l.initial.marks)
-    × (rounds commands (chosen l.set l.words) 0 l.budget (marks_of l.n l.initial.marks)
-    ≡ rounds commands (chosen l.set l.words) l.count (l.budget - l.count) (marks_of l.n l.marks))
-    × Written l.n l.marks
-    × (eqb l.count 0 ≡ false → Quiet isnt_commands (chosen l.set l.words) (marks_of l.n l.marks))
-
-abbrev pub decreases-loop-count : goal.decreases-loop-count
-decreases-loop-count l = l.budget - l.count
+    (length l.marks ≡ length l.initial.marks)
+    × (rounds commands (chosen l.plan.set l.plan.words.now) 0 l.budget (marks_of l.plan.n l.initial.marks)
+    ≡ rounds commands (chosen l.plan.set l.plan.words.now) l.count (l.budget - l.count) (marks_of l.plan.n l.marks))
+    × Written l.plan.n l.marks
+    × (eqb l.count 0 ≡ false → Quiet isnt_commands (chosen l.plan.set l.plan.words.now) (marks_of l.plan.n l.marks))

@@ -1,13 +1,9 @@
-use Prim.Native.Nat.{suc, ◌^◌, ◌<◌}
+use Prim.Native.Nat.{◌^◌, ◌<◌}
 use mathlib.Core.Path.{◌≡◌}
 use mathlib.Core.List.{◌++◌}
 use lib.ListN.{length, drop}
-use Rattle.text_field.specs.Decimal.{decimal}
-use Rattle.text_field.proofs.Decimals.{before_last}
+use Rattle.text_field.specs.Decimal.{digits, decimal}
 use Rattle.text_field.proofs.spell.Given as goal
 
-abbrev pub invariant-loop-rest : goal.invariant-loop-rest
-invariant-loop-rest l = (l.at < 10) × ((length l.digits ≡ 10) × ((l.rest < 10 ^ suc l.at) × (decimal l.n ≡ before_last l.at l.rest ++ drop l.at l.digits)))
-
-abbrev pub decreases-loop-rest : goal.decreases-loop-rest
-decreases-loop-rest l = l.at
+abbrev pub invariant-loop-at : goal.invariant-loop-at
+invariant-loop-at l = (length l.digits ≡ 10) × (l.rest < 10 ^ l.at) × (l.at < 10 → 0 < l.rest) × (decimal l.n ≡ digits l.at l.rest ++ drop l.at l.digits)

@@ -32,12 +32,12 @@ overflow_sub-count c =
     left_most c.args.n (chosen c.args.set c.args.words.now) c.args.program.now c.args.budget c.args.marks.now c.if-marks-n.false c.first_fault-place.ensures c.if-place-program.false
     (stand c.run_program-stood.result.runs c.run_program-stood.result.left c.run_program-stood.result.fresh c.run_program-stood.new.marks) c.run_program-stood.ensures
 
-pub returns-then-runs : goal.returns-then-runs
-returns-then-runs c =
+pub returns-then-stood : goal.returns-then-stood
+returns-then-stood c =
     unit_done_lem c.args.n (chosen c.args.set c.args.words.now) c.args.program.now c.args.budget c.args.marks.now c.if-marks-n.false c.first_fault-place.ensures c.if-place-program.false
-    (stand c.run_program-stood.result.runs c.run_program-stood.result.left c.run_program-stood.result.fresh c.run_program-stood.new.marks) c.run_program-stood.ensures c.if-runs.true
+    (stand c.run_program-stood.result.runs c.run_program-stood.result.left c.run_program-stood.result.fresh c.run_program-stood.new.marks) c.run_program-stood.ensures c.if-stood.true
 
-pub returns : goal.returns
-returns c =
+pub returns-else-stood : goal.returns-else-stood
+returns-else-stood c =
     unit_spent c.args.n (chosen c.args.set c.args.words.now) c.args.program.now c.args.budget c.args.marks.now c.if-marks-n.false c.first_fault-place.ensures c.if-place-program.false
-    (stand c.run_program-stood.result.runs c.run_program-stood.result.left c.run_program-stood.result.fresh c.run_program-stood.new.marks) c.run_program-stood.ensures c.if-runs.false
+    (stand c.run_program-stood.result.runs c.run_program-stood.result.left c.run_program-stood.result.fresh c.run_program-stood.new.marks) c.run_program-stood.ensures c.if-stood.false

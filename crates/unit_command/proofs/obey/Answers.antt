@@ -4,8 +4,8 @@ use Rattle.unit_command.proofs.Reading.{named}
 use Rattle.unit_command.proofs.Obeying.{does_clear, does_set, does_link, does_loop, does_end, does_unknown}
 use Rattle.unit_command.proofs.obey.Goals as goal
 
-pub set_marker-requires : goal.set_marker-requires
-set_marker-requires c =
+pub put_mark-requires : goal.put_mark-requires
+put_mark-requires c =
     let t = named c.args.n c.args.word c.read_word-command.ensures c.in-Set.is in
     (t.0, omega (arith, t.1, c.requires.size))
 
@@ -28,7 +28,7 @@ returns-in-Clear c =
 
 pub returns-in-Set : goal.returns-in-Set
 returns-in-Set c =
-    let t = (does_set (chosen c.args.set c.args.words.now) c.args.marks.now c.read_word-command.ensures c.in-Set.is c.set_marker.ensures.put c.set_marker.ensures.new) in
+    let t = (does_set (chosen c.args.set c.args.words.now) c.args.marks.now c.read_word-command.ensures c.in-Set.is c.put_mark.ensures.done c.put_mark.ensures.new) in
     record {
       done = t.0;
       new = t.1;

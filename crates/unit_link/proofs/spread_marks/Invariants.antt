@@ -1,4 +1,4 @@
-use Prim.Native.Nat.{◌-◌, ◌≤◌}
+use Prim.Native.Nat.{◌-◌}
 use mathlib.Core.Path.{◌≡◌}
 use lib.ListN.{length}
 use Rattle.theory.specs.Growth.{Set}
@@ -6,7 +6,9 @@ use Rattle.unit_gather.specs.Aside.{spread}
 use Rattle.unit_link.proofs.spread_marks.Given as goal
 
 abbrev pub invariant-loop-v : goal.invariant-loop-v
-invariant-loop-v l = (l.v ≤ l.n) × (length l.marks ≡ length l.initial.marks) × (spread l.put l.aside 0 l.n l.initial.marks ≡ spread l.put l.aside l.v (l.n - l.v) l.marks) × Set l.changed l.initial.marks l.marks
-
-abbrev pub decreases-loop-v : goal.decreases-loop-v
-decreases-loop-v l = l.n - l.v
+invariant-loop-v l =
+    record {
+      long : length l.marks ≡ length l.initial.marks;
+      left : spread l.put l.aside 0 l.n l.initial.marks ≡ spread l.put l.aside l.v (l.n - l.v) l.marks;
+      new : Set l.changed l.initial.marks l.marks;
+    }

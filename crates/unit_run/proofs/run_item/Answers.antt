@@ -15,11 +15,6 @@ overflow_add-end c =
     let short = loop_short c.args.n (chosen c.args.set c.args.words.now) c.args.budget c.args.marks.now c.args.program.now c.requires.sound c.requires.some c.if-program-eq-LOOP.true c.before_end-size.ensures in
     omega arith
 
-pub overflow_add-places : goal.overflow_add-places
-overflow_add-places c =
-    let short = loop_short c.args.n (chosen c.args.set c.args.words.now) c.args.budget c.args.marks.now c.args.program.now c.requires.sound c.requires.some c.if-program-eq-LOOP.true c.before_end-size.ensures in
-    omega arith
-
 pub returns-then-program-eq-LOOP : goal.returns-then-program-eq-LOOP
 returns-then-program-eq-LOOP c =
     let t = (item_loop c.args.n (chosen c.args.set c.args.words.now) c.args.budget c.args.marks.now c.args.program.now c.requires.sound c.requires.some c.if-program-eq-LOOP.true c.before_end-size.ensures

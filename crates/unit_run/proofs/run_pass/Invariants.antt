@@ -1,4 +1,3 @@
-use Prim.Native.Nat.{◌-◌, ◌≤◌}
 use mathlib.Core.Path.{◌≡◌}
 use mathlib.Core.Bool.{false}
 use mathlib.Core.List.{map}
@@ -8,8 +7,9 @@ use Rattle.unit_program.specs.Programs.{decode}
 use Rattle.unit_program.specs.Runs.{pass}
 use Rattle.unit_run.proofs.run_pass.Given as goal
 
-abbrev pub invariant-loop-i : goal.invariant-loop-i
-invariant-loop-i l = (l.i ≤ length l.program) × (length l.marks ≡ length l.initial.marks) × (pass (chosen l.set l.words) (map (decode l.n) l.program) l.budget false l.initial.marks ≡ pass (chosen l.set l.words) (map (decode l.n) (drop l.i l.program)) l.left l.fresh l.marks)
-
-abbrev pub decreases-loop-i : goal.decreases-loop-i
-decreases-loop-i l = length l.program - l.i
+abbrev pub invariant-loop-word : goal.invariant-loop-word
+invariant-loop-word l =
+    record {
+      long : length l.marks ≡ length l.initial.marks;
+      ahead : pass (chosen l.set l.words) (map (decode l.n) l.program) l.budget false l.initial.marks ≡ pass (chosen l.set l.words) (map (decode l.n) (drop l.word-index l.program)) l.left l.fresh l.marks;
+    }

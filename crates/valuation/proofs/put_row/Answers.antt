@@ -1,7 +1,6 @@
 use Prim.Native.Nat.{ℕ, ◌-◌}
-use mathlib.Core.Path.{◌≡◌, refl, sym, ap, ◌∙◌}
+use mathlib.Core.Path.{◌≡◌, sym, ap, ◌∙◌}
 use native.Mathlib.Omega.{arith}
-use lib.ListN.{length-set}
 use Rattle.theory_laws.specs.Over.{over}
 use Rattle.question.specs.Table.{answer_number}
 use Rattle.valuation.specs.Values.{value_row}
@@ -10,18 +9,14 @@ use Rattle.valuation.proofs.put_row.Goals as goal
 
 pub loop-y-init : goal.loop-y-init
 loop-y-init c =
-    (omega arith, c.requires.0, refl, ap (λ q. over q c.args.table.now) (sym (row_none c.args.marks.now c.args.o)))
+    ap (λ q. over q c.args.table.now) (sym (row_none c.args.marks.now c.args.o))
 
 pub loop-y-preserved : goal.loop-y-preserved
-loop-y-preserved c = (
-  omega (arith, c.loop-y.invariant.0),
-  omega (arith, c.loop-y-test.true),
-  simp length-set c.loop-y.invariant.2,
-  row_put c.args.marks.now c.args.table.now c.loop-y.table c.args.o c.args.n c.loop-y.y c.answer_number-byte.result c.loop-y.invariant.0 c.loop-y-test.true c.requires.2 c.loop-y.invariant.3
-      (c.answer_number-byte.ensures ∙ ap answer_number c.answer_at.ensures),
-)
+loop-y-preserved c =
+    row_put c.args.marks.now c.args.table.now c.loop-y.table c.args.o c.args.n c.loop-y.y c.answer_number-byte.result c.loop-y.auto.y c.loop-y-test.true c.requires.2 c.loop-y.invariant
+    (c.answer_number-byte.ensures ∙ ap answer_number c.answer_at.ensures)
 
 pub returns : goal.returns
 returns c =
-    let e : c.loop-y.y ≡ c.args.n = omega (arith, c.loop-y.invariant.1, c.loop-y-test.false) in
-    c.loop-y.invariant.3 ∙ ap (λ (i : ℕ). over (value_row c.args.marks.now c.args.o (i - c.args.o)) c.args.table.now) e
+    let e : c.loop-y.y ≡ c.args.n = omega (arith, c.loop-y.auto.y-end, c.loop-y-test.false) in
+    c.loop-y.invariant ∙ ap (λ (i : ℕ). over (value_row c.args.marks.now c.args.o (i - c.args.o)) c.args.table.now) e

@@ -1,13 +1,9 @@
 -- The loop's invariant: the bytes of the kinds below y stand in front of the table.
-use Prim.Native.Nat.{◌-◌, ◌≤◌}
+use Prim.Native.Nat.{◌-◌}
 use mathlib.Core.Path.{◌≡◌}
-use lib.ListN.{length}
 use Rattle.theory_laws.specs.Over.{over}
 use Rattle.valuation.specs.Values.{value_row}
 use Rattle.valuation.proofs.put_row.Given as goal
 
 abbrev pub invariant-loop-y : goal.invariant-loop-y
-invariant-loop-y l = (l.o ≤ l.y) × (l.y ≤ l.n) × (length l.table ≡ length l.initial.table) × (l.table ≡ over (value_row l.marks l.o (l.y - l.o)) l.initial.table)
-
-abbrev pub decreases-loop-y : goal.decreases-loop-y
-decreases-loop-y l = l.n - l.y
+invariant-loop-y l = l.table ≡ over (value_row l.marks l.o (l.y - l.o)) l.initial.table

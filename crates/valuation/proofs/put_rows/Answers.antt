@@ -21,7 +21,7 @@ overflow_cast-nodes c = omega (arith, c.requires.net.few, c.requires.size)
 pub loop-x-init : goal.loop-x-init
 loop-x-init c =
     let e = rows_none c.args.o c.args.k (chosen c.args.set c.args.words.now) in
-    (omega arith, refl, refl, refl, ap length (sym e), ap (λ q. over q c.args.table.now) (sym e))
+    (refl, ap length (sym e), ap (λ q. over q c.args.table.now) (sym e))
 
 pub full_scan-requires : goal.full_scan-requires
 full_scan-requires c =
@@ -29,23 +29,23 @@ full_scan-requires c =
       net = c.requires.net;
       size = c.requires.size;
       node = omega (arith, c.loop-x-test.true, c.requires.size);
-      room = omega (arith, c.loop-x.invariant.1, c.requires.room);
+      room = omega (arith, c.loop-x.auto.marks, c.requires.room);
     }
 
 pub slice_bounds-put_row-count : goal.slice_bounds-put_row-count
 slice_bounds-put_row-count c =
     let turn : c.loop-x.x < c.args.n = omega (arith, c.loop-x-test.true, c.requires.size) in
     let place : c.loop-x.at + c.args.k ≤ length c.loop-x.table =
-    room c.args.o c.args.k c.loop-x.x c.args.n (chosen c.args.set c.args.words.now) turn c.loop-x.invariant.4 (omega (arith, c.loop-x.invariant.3, c.requires.fits)) in
+    room c.args.o c.args.k c.loop-x.x c.args.n (chosen c.args.set c.args.words.now) turn c.loop-x.invariant.1 (omega (arith, c.loop-x.auto.table, c.requires.fits)) in
     omega (arith, place)
 
 pub put_row-requires : goal.put_row-requires
 put_row-requires c =
     let turn : c.loop-x.x < c.args.n = omega (arith, c.loop-x-test.true, c.requires.size) in
     let place : c.loop-x.at + c.args.k ≤ length c.loop-x.table =
-    room c.args.o c.args.k c.loop-x.x c.args.n (chosen c.args.set c.args.words.now) turn c.loop-x.invariant.4 (omega (arith, c.loop-x.invariant.3, c.requires.fits)) in (
+    room c.args.o c.args.k c.loop-x.x c.args.n (chosen c.args.set c.args.words.now) turn c.loop-x.invariant.1 (omega (arith, c.loop-x.auto.table, c.requires.fits)) in (
       omega (arith, c.requires.size),
-      omega (arith, c.full_scan.ensures.long, c.loop-x.invariant.1, c.requires.room),
+      omega (arith, c.full_scan.ensures.long, c.loop-x.auto.marks, c.requires.room),
       simp (length-take, length-drop) (omega (arith, c.requires.size, place)),
     )
 
@@ -53,14 +53,14 @@ pub overflow_add-at : goal.overflow_add-at
 overflow_add-at c =
     let turn : c.loop-x.x < c.args.n = omega (arith, c.loop-x-test.true, c.requires.size) in
     let place : c.loop-x.at + c.args.k ≤ length c.loop-x.table =
-    room c.args.o c.args.k c.loop-x.x c.args.n (chosen c.args.set c.args.words.now) turn c.loop-x.invariant.4 (omega (arith, c.loop-x.invariant.3, c.requires.fits)) in
-    omega (arith, place, c.loop-x.invariant.3)
+    room c.args.o c.args.k c.loop-x.x c.args.n (chosen c.args.set c.args.words.now) turn c.loop-x.invariant.1 (omega (arith, c.loop-x.auto.table, c.requires.fits)) in
+    omega (arith, place, c.loop-x.auto.table)
 
 pub loop-x-preserved : goal.loop-x-preserved
 loop-x-preserved c =
     let turn : c.loop-x.x < c.args.n = omega (arith, c.loop-x-test.true, c.requires.size) in
     let place : c.loop-x.at + c.args.k ≤ length c.loop-x.table =
-    room c.args.o c.args.k c.loop-x.x c.args.n (chosen c.args.set c.args.words.now) turn c.loop-x.invariant.4 (omega (arith, c.loop-x.invariant.3, c.requires.fits)) in
+    room c.args.o c.args.k c.loop-x.x c.args.n (chosen c.args.set c.args.words.now) turn c.loop-x.invariant.1 (omega (arith, c.loop-x.auto.table, c.requires.fits)) in
     let row : value_row c.full_scan.new.marks c.args.o (c.args.n - c.args.o) ≡ value_row (full_marks c.args.o c.args.k (chosen c.args.set c.args.words.now) c.loop-x.x) c.args.o c.args.k =
     read_row c.args.o c.args.k c.args.n (chosen c.args.set c.args.words.now) c.loop-x.x c.full_scan.new.marks c.requires.size c.full_scan.ensures.nodes in
     let done = value_rows c.args.o c.args.k (chosen c.args.set c.args.words.now) 0 c.loop-x.x in
@@ -69,20 +69,17 @@ loop-x-preserved c =
     written_more done (value_row c.full_scan.new.marks c.args.o (c.args.n - c.args.o)) (value_rows c.args.o c.args.k (chosen c.args.set c.args.words.now) 0 (c.loop-x.x + 1)) c.args.table.now c.loop-x.table
     c.put_row.new.table c.loop-x.at c.args.k
     (rows_more c.args.o c.args.k (chosen c.args.set c.args.words.now) c.loop-x.x ∙ ap (λ (q : List ℕ). done ++ q) (sym row))
-    (omega (arith, c.loop-x.invariant.3, c.loop-x.invariant.4, size, place)) c.loop-x.invariant.4 c.loop-x.invariant.5 size c.put_row.ensures in (
-      omega (arith, turn),
-      c.full_scan.ensures.long ∙ c.loop-x.invariant.1,
-      c.full_scan.ensures.past ∙ c.loop-x.invariant.2,
-      t.0,
+    (omega (arith, c.loop-x.auto.table, c.loop-x.invariant.1, size, place)) c.loop-x.invariant.1 c.loop-x.invariant.2 size c.put_row.ensures in (
+      c.full_scan.ensures.past ∙ c.loop-x.invariant.0,
       t.1,
       t.2,
     )
 
 pub returns : goal.returns
 returns c =
-    let e : c.loop-x.x ≡ c.args.n = omega (arith, c.loop-x.invariant.0, c.loop-x-test.false, c.requires.size) in
+    let e : c.loop-x.x ≡ c.args.n = omega (arith, c.loop-x.auto.x-end, c.loop-x-test.false, c.requires.size) in
     record {
-      written = c.loop-x.invariant.5 ∙ ap (λ (i : List ℕ). over i c.args.table.now) (ap (value_rows c.args.o c.args.k (chosen c.args.set c.args.words.now) 0) e ∙ rows_all c.args.o c.args.k (chosen c.args.set c.args.words.now) c.args.n c.requires.size);
-      past = c.loop-x.invariant.2;
-      long = c.loop-x.invariant.1;
+      written = c.loop-x.invariant.2 ∙ ap (λ (i : List ℕ). over i c.args.table.now) (ap (value_rows c.args.o c.args.k (chosen c.args.set c.args.words.now) 0) e ∙ rows_all c.args.o c.args.k (chosen c.args.set c.args.words.now) c.args.n c.requires.size);
+      past = c.loop-x.invariant.0;
+      long = c.loop-x.auto.marks;
     }

@@ -1,5 +1,4 @@
 -- The loop's invariant: the rows of the nodes below x stand in front of the table, and the bytes past the nodes are as they were.
-use Prim.Native.Nat.{◌-◌, ◌≤◌}
 use mathlib.Core.Path.{◌≡◌}
 use lib.ListN.{length, drop}
 use Rattle.theory_laws.specs.Over.{over}
@@ -9,12 +8,6 @@ use Rattle.valuation.proofs.put_rows.Given as goal
 
 abbrev pub invariant-loop-x : goal.invariant-loop-x
 invariant-loop-x l =
-    (l.x ≤ l.n)
-    × (length l.marks ≡ length l.initial.marks)
-    × (drop l.n l.marks ≡ drop l.n l.initial.marks)
-    × (length l.table ≡ length l.initial.table)
+    (drop l.n l.marks ≡ drop l.n l.initial.marks)
     × (l.at ≡ length (value_rows l.o l.k (chosen l.set l.words) 0 l.x))
     × (l.table ≡ over (value_rows l.o l.k (chosen l.set l.words) 0 l.x) l.initial.table)
-
-abbrev pub decreases-loop-x : goal.decreases-loop-x
-decreases-loop-x l = l.n - l.x

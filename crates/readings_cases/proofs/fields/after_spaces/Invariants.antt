@@ -1,6 +1,0 @@
--- The loop of `after_spaces` ends, since `length line - at` falls.
-use Rattle.std.proofs.Common.{◌-◌, length}
-use Rattle.readings_cases.proofs.fields.after_spaces.Given as goal
-
-abbrev pub decreases-loop-at : goal.decreases-loop-at
-decreases-loop-at l = length l.line - l.at

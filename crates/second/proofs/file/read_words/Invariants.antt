@@ -1,6 +1,0 @@
--- The loop of `read_words` ends, since `count - i` falls; the lent slice keeps its length.
-use Rattle.std.proofs.Common.{◌-◌}
-use Rattle.second.proofs.file.read_words.Given as goal
-
-abbrev pub decreases-loop-i : goal.decreases-loop-i
-decreases-loop-i l = l.count - l.i

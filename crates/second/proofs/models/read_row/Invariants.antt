@@ -1,6 +1,0 @@
--- The loop of `read_row` ends, since `n - p` falls; the lent slice keeps its length.
-use Rattle.std.proofs.Common.{◌-◌}
-use Rattle.second.proofs.models.read_row.Given as goal
-
-abbrev pub decreases-loop-p : goal.decreases-loop-p
-decreases-loop-p l = l.n - l.p

@@ -1,6 +1,0 @@
--- The loop of `write_answers` ends, since `64 - i` falls; the lent slice keeps its length.
-use Rattle.std.proofs.Common.{◌-◌}
-use Rattle.second.proofs.pairs.write_answers.Given as goal
-
-abbrev pub decreases-loop-i : goal.decreases-loop-i
-decreases-loop-i l = 64 - l.i
