@@ -1,6 +1,4 @@
 -- What a call that was not refused was: over a net, from a node, and with the marks and the count of its scan.
-use Rattle.scan.specs.declared.ScanError.TheVariants as answer
-use Rattle.std.specs.Prelude.{Err, Ok}
 use Prim.Native.Nat.{ℕ, ◌+◌, ◌<◌}
 use mathlib.Core.Path.{◌≡◌, sym, ap, ◌∙◌}
 use mathlib.Core.Bool.{Bool, true, false}
@@ -8,6 +6,7 @@ use mathlib.Core.List.{List, ◌++◌}
 use native.Mathlib.Omega.{arith}
 use lib.ListN.{length, get_or, drop, get_or-append}
 use borrow.Author.Tests.{leb-false, not-false, not-true}
+use Rattle.std.specs.Prelude.{Err, Ok}
 use Rattle.theory.specs.Nets.{Kind, Net}
 use Rattle.theory.specs.Marks.{commands, scan_start}
 use Rattle.theory.specs.Scans.{scan, full_scan}
@@ -15,11 +14,10 @@ use Rattle.theory.specs.Origins.{chosen}
 use Rattle.theory.proofs.machine.Budgets.{spent_marks}
 use Rattle.theory.proofs.machine.Bounds.{scan_long}
 use Rattle.net.proofs.Good.{good_pair, good_kind}
-use Rattle.scan.specs.Table.{ScanOutcome, scanned, scan_reply}
-use Rattle.scan.specs.Table.{Scanned}
-use Rattle.question.specs.Table.{QuestionOutcome, questioned, answer_at, asked_reply}
+use Rattle.scan.specs.Table.{ScanOutcome, scanned, scan_reply, Scanned}
+use Rattle.scan.specs.declared.ScanError.TheVariants as answer
+use Rattle.question.specs.Table.{QuestionOutcome, questioned, answer_at, asked_reply, Asked}
 use Rattle.question.specs.declared.Answer.{Answer}
-use Rattle.question.specs.Table.{Asked}
 use Rattle.promises.proofs.Demand1.{scan_obeys, question_obeys}
 use Rattle.promises.proofs.Tests.{past_checks, chosen_of}
 

@@ -1,5 +1,4 @@
 -- Our engine keeps what is promised of a screenful of questions.
-use Rattle.std.specs.Prelude.{Err, Ok}
 use Prim.Native.Nat.{ℕ, zero, suc, ◌+◌, ◌≤◌, ◌<◌}
 use mathlib.Core.Path.{◌≡◌, refl, sym, ap, ◌∙◌}
 use mathlib.Core.Bool.{Bool, true, false, cond}
@@ -8,6 +7,7 @@ use mathlib.Core.Logic.{◌↔◌}
 use native.Mathlib.Omega.{arith}
 use lib.ListN.{length, get_or, drop, length-append, get_or-append}
 use lib.Seq.{drop_at}
+use Rattle.std.specs.Prelude.{Err, Ok}
 use Rattle.theory_laws.specs.Over.{over}
 use Rattle.theory_laws.proofs.Over.{length_over}
 use Rattle.theory_laws.proofs.Booleans.{contradiction}
@@ -26,8 +26,7 @@ use Rattle.question.specs.declared.Answer.{Answer}
 use Rattle.question.specs.declared.Answer.TheVariants.{None, Yes, No, Both}
 use Rattle.question.proofs.Bytes.{answer_low}
 use Rattle.questions.specs.Pairs.{pairs_in, subject_at, kind_at, GoodPairs}
-use Rattle.questions.specs.Table.{QuestionsOutcome, asked_byte, answer_byte, marks_after, answers_from, marks_from, asked_all_reply, questions_done, questioned_all}
-use Rattle.questions.specs.Table.{AskedAll}
+use Rattle.questions.specs.Table.{QuestionsOutcome, asked_byte, answer_byte, marks_after, answers_from, marks_from, asked_all_reply, questions_done, questioned_all, AskedAll}
 use Rattle.questions.proofs.Pairs.{single, answers_long}
 use Rattle.questions.proofs.Last.{byte_at, marks_last, marks_none}
 use Rattle.promises.specs.Numbers.{questions_number}

@@ -1,5 +1,4 @@
 -- What the clash test finds: the smallest clash of the net, or nothing exactly if no node clashes.
-use Rattle.std.specs.Prelude.{None, Ok, Some}
 use Prim.Native.Nat.{ℕ, zero, suc, ◌+◌, ◌≤◌, ◌<◌}
 use mathlib.Core.Path.{◌≡◌, refl, sym, ap, ◌∙◌}
 use mathlib.Core.Bool.{Bool, true, false, cond, ◌&&◌}
@@ -10,14 +9,14 @@ use native.Mathlib.Decide.{dec_lt, ℕ_discrete}
 use lib.Dec.{ltb}
 use lib.ListN.{get_or}
 use borrow.Author.Tests.{ltb-true, ltb-false}
+use Rattle.std.specs.Prelude.{None, Ok, Some}
 use Rattle.theory_laws.proofs.Booleans.{contradiction, and_left, and_right, and_both}
 use Rattle.theory.specs.Words.{is, isnt}
 use Rattle.theory.specs.Nets.{Kind, Net}
 use Rattle.theory.specs.Marks.{says_yes, says_no}
 use Rattle.theory.specs.Completion.{full_marks}
 use Rattle.theory.proofs.completion.Completing.{full_exact}
-use Rattle.clash.specs.Table.{clash_nodes, first_both, first_clash, clash_search, nowhere as isNowhere, clashed_reply}
-use Rattle.clash.specs.Table.{Clashed}
+use Rattle.clash.specs.Table.{clash_nodes, first_both, first_clash, clash_search, nowhere as isNowhere, clashed_reply, Clashed}
 use Rattle.theory.specs.Clashes.{ClashAt, SmallestClash}
 use Rattle.theory.proofs.mending.Computing.{smallest_unique}
 

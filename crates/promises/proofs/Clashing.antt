@@ -4,8 +4,7 @@ use mathlib.Core.Path.{sym, ap, ◌∙◌}
 use borrow.Author.Tests.{le-ltb}
 use lib.ListN.{length}
 use Rattle.theory.specs.Origins.{chosen}
-use Rattle.clash.specs.Table.{ClashOutcome, clashed_reply}
-use Rattle.clash.specs.Table.{Clashed}
+use Rattle.clash.specs.Table.{ClashOutcome, clashed_reply, Clashed}
 use Rattle.promises.specs.Engines.{ours}
 use Rattle.promises.specs.Clashing.{Clashing}
 use Rattle.promises.proofs.Clashes.{clash_exactly, no_clash_exactly}

@@ -1,13 +1,12 @@
 -- Demand 1, kept by our engine: whatever numbers and buffers a call is given, its number is that of the first clause that applies, each buffer is
 -- left as that clause says, and where no clause applies the call is done. Nothing is asked of the caller.
-use Rattle.explain.specs.declared.ExplainError.TheVariants as explainedAs
-use Rattle.std.specs.Prelude.{Ok, Some, false, true, Err}
 use Prim.Native.Nat.{ℕ, zero, suc, ◌+◌, ◌*◌}
 use mathlib.Core.Path.{◌≡◌, refl, sym}
 use mathlib.Core.Bool.{Bool, true, false, cond}
 use mathlib.Core.List.{List, []}
 use lib.Dec.{ltb}
 use lib.ListN.{length}
+use Rattle.std.specs.Prelude.{Ok, Some, Err}
 use Rattle.theory_laws.specs.Over.{over}
 use Rattle.theory_laws.proofs.Booleans.{contradiction}
 use Rattle.theory.specs.Words.{sign_at}
@@ -16,12 +15,11 @@ use Rattle.theory.specs.Checks.{passes}
 use Rattle.theory.specs.Origins.{chosen}
 use Rattle.theory.specs.Compaction.{compacted}
 use Rattle.theory.specs.Mending.{kept_from, dropped_from}
-use Rattle.net.specs.Table.{check_net}
+use Rattle.net.specs.Table.{check_net, net_table, net_done}
 use Rattle.check_word.specs.Table.{word_table, check_word}
-use Rattle.scan.specs.Table.{scanned}
-use Rattle.question.specs.Table.{questioned}
-use Rattle.clash.specs.Table.{first_both, first_clash, clash_nodes, clash_search, nowhere, clash_table, clash_done, clashed_reply, clashed_by}
-use Rattle.clash.specs.Table.{Clashed}
+use Rattle.scan.specs.Table.{scanned, scan_table, scan_done}
+use Rattle.question.specs.Table.{questioned, question_table, question_done}
+use Rattle.clash.specs.Table.{first_both, first_clash, clash_nodes, clash_search, nowhere, clash_table, clash_done, clashed_reply, clashed_by, Clashed}
 use Rattle.completion.specs.Table.{completion_table, completion_done, completed_by}
 use Rattle.compact.specs.Table.{compaction_table, compaction_done, compacted_by}
 use Rattle.mend.specs.Table.{mending_table, mending_done, mended_by}
@@ -31,6 +29,7 @@ use Rattle.proof.specs.Table.{proof_table, proof_done, proved}
 use Rattle.proof_check.specs.Table.{judged_table, judged_done, judged}
 use Rattle.derivation_lines.specs.Lines.{Line}
 use Rattle.explain.specs.Table.{explain_outcome, explaining, roomless, explain_table, explain_done, explained}
+use Rattle.explain.specs.declared.ExplainError.TheVariants as explainedAs
 use Rattle.derivation_check.specs.Table.{accepts, lines_done, lines_verdict}
 use Rattle.unit.specs.Table.{unit_table, unit_done, simulated}
 use Rattle.theory.specs.Valuations.{satisfies}
@@ -40,9 +39,6 @@ use Rattle.satisfies.specs.Table.{satisfies_table, satisfies_done, tested_by}
 use Rattle.rows_completion.specs.Table.{rows_table, rows_done, completed_by_rows}
 use Rattle.rows_answer.specs.Table.{answer_in_rows, answer_table, answered_in_rows}
 use Rattle.promises.specs.Tables.{Obeys}
-use Rattle.net.specs.Table.{net_table, net_done}
-use Rattle.scan.specs.Table.{scan_table, scan_done}
-use Rattle.question.specs.Table.{question_table, question_done}
 use Rattle.questions.specs.Table.{questions_table, questions_done, questioned_all}
 use Rattle.netfile.specs.Table.{read_from, file_table, file_done}
 use Rattle.netfile.proofs.Called.{file_called}

@@ -1,6 +1,4 @@
 -- Demand 3, kept by our engine.
-use Rattle.completion.specs.declared.CompletionError.TheVariants as completed
-use Rattle.std.specs.Prelude.{Err}
 use Prim.Native.Nat.{ℕ, ◌+◌, ◌≤◌, ◌<◌}
 use mathlib.Core.Path.{◌≡◌, sym, ap, subst, ◌∙◌}
 use mathlib.Core.List.Memᴰ
@@ -10,6 +8,7 @@ use native.Mathlib.Omega.{arith}
 use lib.ListN.{length, take, drop, length-append, length-replicate}
 use lib.Seq.{take-append_seam}
 use borrow.Author.Tests.{ltb-true, le-ltb}
+use Rattle.std.specs.Prelude.{Err}
 use Rattle.theory.specs.Words.{word_limit}
 use Rattle.theory.specs.Nets.{Kind, Net, AllIn}
 use Rattle.theory.specs.Origins.{chosen}
@@ -20,8 +19,8 @@ use Rattle.theory.specs.Completion.{complete, Lists}
 use Rattle.theory.proofs.completion.Completing.{complete_lists, lists_unique}
 use Rattle.theory.proofs.completion.Demand3.{complete_net, complete_again, complete_part, alike as complete-alike, joining_keeps, others_keep, SameAnswer, Alike}
 use Rattle.question.specs.Table.{questioned}
-use Rattle.completion.specs.Table.{CompletionOutcome, completed_by, completed_reply}
-use Rattle.completion.specs.Table.{Completed}
+use Rattle.completion.specs.Table.{CompletionOutcome, completed_by, completed_reply, Completed}
+use Rattle.completion.specs.declared.CompletionError.TheVariants as completed
 use Rattle.promises.specs.Engines.{Engine, Read, HasZero, ours}
 use Rattle.promises.specs.Demand3.{word_of, CompletesTo, Joined, SameWord, Demand3}
 use Rattle.promises.proofs.Demand1.{completion_obeys}

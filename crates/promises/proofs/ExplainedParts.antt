@@ -1,7 +1,4 @@
 -- The parts of what an explanation leaves: which list was too short, and that scratch and list of the reason are kept.
-use Rattle.explain.specs.declared.ExplainError.TheVariants as explainedAs
-use Rattle.reason.specs.declared.ReasonError.TheVariants as reasonedAs
-use Rattle.std.specs.Prelude.{Err, Ok}
 use Prim.Native.Nat.{ℕ, ◌*◌}
 use mathlib.Core.Path.{◌≡◌, refl, ap}
 use mathlib.Core.Bool.{Bool, true, false, cond}
@@ -9,12 +6,14 @@ use mathlib.Core.List.{List}
 use native.Mathlib.Omega.{arith}
 use lib.Dec.{ltb}
 use lib.ListN.{length, take}
+use Rattle.std.specs.Prelude.{Err, Ok}
 use Rattle.theory_laws.specs.Over.{over}
 use Rattle.reason.specs.Table.{Reasoned}
+use Rattle.reason.specs.declared.ReasonError.TheVariants as reasonedAs
 use Rattle.derivation_lines.specs.Flat.{flat, derive_list}
-use Rattle.explain.specs.Table.{ExplainOutcome, explain_outcome, explained_reply}
+use Rattle.explain.specs.Table.{ExplainOutcome, explain_outcome, explained_reply, Explained}
 use Rattle.explain.specs.Found.{explained_by}
-use Rattle.explain.specs.Table.{Explained}
+use Rattle.explain.specs.declared.ExplainError.TheVariants as explainedAs
 
 -- Which list was too short, by the answer.
 module _ (a b : ℕ) (past m n l : List ℕ) where

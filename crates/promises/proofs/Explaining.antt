@@ -1,6 +1,4 @@
 -- Our engine keeps what is promised of the explanation and of the derivation check.
-use Rattle.explain.specs.declared.ExplainError.TheVariants as explainedAs
-use Rattle.std.specs.Prelude.{Err, Ok}
 use Prim.Native.Nat.{ℕ, ◌+◌, ◌*◌, ◌%◌, ◌≤◌, ◌<◌}
 use mathlib.Core.Path.{◌≡◌, refl, sym, ap, ◌∙◌}
 use mathlib.Core.List.{List}
@@ -9,6 +7,7 @@ use lib.Dec.{ltb}
 use lib.ListN.{length, take, drop}
 use lib.Seq.{drop_at}
 use borrow.Author.Tests.{ltb-true, ltb-false, le-ltb}
+use Rattle.std.specs.Prelude.{Err, Ok}
 use Rattle.theory_laws.specs.Over.{over}
 use Rattle.theory_laws.proofs.Booleans.{or_none_right}
 use Rattle.theory_laws.proofs.Over.{length_over}
@@ -25,10 +24,10 @@ use Rattle.derivation_lines.proofs.Sizes.{derive_size, derive_short}
 use Rattle.derivation_lines.proofs.Sound.{every_line_supported}
 use Rattle.derivation_check.specs.Table.{DerivationOf}
 use Rattle.derivation_check.proofs.Exactly.{holds_exactly, fails_exactly, holds_supported, holds_one_way}
-use Rattle.explain.specs.Table.{ExplainOutcome, explaining as linesFor, explain_done, explained, explained_reply}
-use Rattle.explain.specs.Table.{Explained}
+use Rattle.explain.specs.Table.{ExplainOutcome, explaining as linesFor, explain_done, explained, explained_reply, Explained}
 use Rattle.explain.proofs.Found.{explained_by_lem}
 use Rattle.explain.proofs.Meaning.{done_explains}
+use Rattle.explain.specs.declared.ExplainError.TheVariants as explainedAs
 use Rattle.promises.specs.Engines.{Read, ours}
 use Rattle.promises.specs.Numbers.{explanation_number}
 use Rattle.promises.specs.Reasoning.{ReasonOf}

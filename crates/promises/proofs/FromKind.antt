@@ -1,6 +1,4 @@
 -- Any engine that keeps the three demands keeps the laws of demand 3 where it is asked from the kind.
-use Rattle.scan.specs.declared.ScanError.TheVariants as scanned
-use Rattle.std.specs.Prelude.{Err, Ok}
 use Prim.Native.Nat.{ℕ, ◌+◌, ◌*◌, ◌-◌, ◌≤◌, ◌<◌}
 use mathlib.Core.Path.{◌≡◌, refl, sym, ap, subst, ◌∙◌}
 use mathlib.Core.List.{List, [], ◌++◌, append-nil, Memᴰ}
@@ -8,6 +6,7 @@ use mathlib.Core.Logic.{◌↔◌}
 use native.Mathlib.Omega.{arith}
 use lib.ListN.{length, length-replicate}
 use borrow.Author.Tests.{le-ltb, lt-leb}
+use Rattle.std.specs.Prelude.{Err, Ok}
 use Rattle.theory.specs.Words.{Sign, is, tail_of}
 use Rattle.theory.specs.Nets.{Kind, Links, Net}
 use Rattle.theory.specs.Support.{Supported}
@@ -20,8 +19,8 @@ use Rattle.theory.proofs.completion.Demand3.{part_of, lists_as, same_completed, 
 use Rattle.theory.proofs.Legal.{legal_links}
 use Rattle.theory.proofs.support.Joining.{Sub, ends}
 use Rattle.net.proofs.Replies.{refusal_numbers}
-use Rattle.scan.specs.Table.{ScanOutcome, scan_table, scan_reply}
-use Rattle.scan.specs.Table.{Scanned}
+use Rattle.scan.specs.Table.{ScanOutcome, scan_table, scan_reply, Scanned}
+use Rattle.scan.specs.declared.ScanError.TheVariants as scanned
 use Rattle.promises.specs.Tables.{Due}
 use Rattle.promises.specs.Engines.{Engine, Read, HasZero, ours}
 use Rattle.promises.specs.Demand1.{Demand1}

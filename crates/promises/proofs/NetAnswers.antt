@@ -1,5 +1,4 @@
 -- What our engine answers to a question over a net: the word is that of one byte, so nets with the same bytes give the same words.
-use Rattle.std.specs.Prelude.{Err, Ok}
 use Prim.Native.Nat.{ℕ, ◌+◌, ◌<◌}
 use mathlib.Core.Path.{◌≡◌, refl, sym, ap, ◌∙◌}
 use mathlib.Core.Bool.{Bool, true, false, cond}
@@ -8,6 +7,7 @@ use native.Mathlib.Omega.{arith}
 use lib.Dec.{ltb}
 use lib.ListN.{length, get_or, drop, length-replicate}
 use borrow.Author.Tests.{le-ltb}
+use Rattle.std.specs.Prelude.{Err, Ok}
 use Rattle.theory.specs.Words.{Sign, is, isnt}
 use Rattle.theory.specs.Nets.{Kind}
 use Rattle.theory.specs.Origins.{chosen}
@@ -19,10 +19,9 @@ use Rattle.net.specs.Table.{bad_pair}
 use Rattle.net.specs.declared.Refusal.TheVariants.{BadQuestion, ShortBuffer}
 use Rattle.net.proofs.NetCheck.{net_is_checked}
 use Rattle.net.proofs.Good.{good_pair, good_kind}
-use Rattle.question.specs.Table.{QuestionOutcome, question_outcome, question_clauses, question_done, questioned, answer_at, read_at}
+use Rattle.question.specs.Table.{QuestionOutcome, question_outcome, question_clauses, question_done, questioned, answer_at, read_at, Asked}
 use Rattle.net.proofs.OnNet.{gone_on}
 use Rattle.question.specs.declared.Answer.{Answer}
-use Rattle.question.specs.Table.{Asked}
 use Rattle.promises.specs.Engines.{Read}
 use Rattle.promises.specs.Demand2.{says}
 use Rattle.promises.specs.Demand3.{word_of, said_by}

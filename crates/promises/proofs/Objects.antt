@@ -1,10 +1,10 @@
 -- After a scan from an object only the bytes of kinds are answers: read at every node, as the report's Theorem 4 does, they would say what no rule gives.
-use Rattle.std.specs.Prelude.{Ok}
 use Prim.Native.Nat.{ℕ, ◌+◌, ◌<◌}
 use mathlib.Core.Path.{◌≡◌, refl, ap}
 use mathlib.Core.List.{List, [], ◌∷◌}
 use mathlib.Core.Logic.{◌↔◌}
 use native.Mathlib.Omega.{arith}
+use Rattle.std.specs.Prelude.{Ok}
 use Rattle.theory.specs.Words.{Sign, is}
 use Rattle.theory.specs.Nets.{Links, LegalWords}
 use Rattle.theory.specs.Support.{Supported}

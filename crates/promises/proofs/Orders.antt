@@ -1,8 +1,5 @@
 -- Links stand in any order and a repeated word counts once: over two nets of which the same words are chosen a scan, a question and a screenful of questions do the same.
 -- The completion, the clash test, the reason and the reason check stand in `Reordered`.
-use Rattle.questions.specs.declared.PairsError.TheVariants as askedAll
-use Rattle.scan.specs.declared.ScanError.TheVariants as answer
-use Rattle.std.specs.Prelude.{Err, Ok}
 use Prim.Native.Nat.{ℕ, zero, suc, ◌+◌, ◌<◌}
 use mathlib.Core.Path.{◌≡◌, refl, sym, ap, ◌∙◌}
 use mathlib.Core.Bool.{Bool, true, false, cond}
@@ -11,6 +8,7 @@ use native.Mathlib.Omega.{arith}
 use lib.Dec.{ltb}
 use lib.ListN.{length, get_or, drop}
 use borrow.Author.Tests.{leb-false}
+use Rattle.std.specs.Prelude.{Err, Ok}
 use Rattle.theory.specs.Nets.{Net, AllIn}
 use Rattle.theory.specs.Origins.{chosen}
 use Rattle.theory.specs.Marks.{commands, scan_start}
@@ -22,6 +20,7 @@ use Rattle.net.specs.Table.{bad_pair}
 use Rattle.net.proofs.NetCheck.{net_is_checked}
 use Rattle.scan.specs.Table.{ScanOutcome, scan_outcome, bad_start, scan_clauses, scan_done, scanned}
 use Rattle.scan.proofs.Outcomes.{scan_end, scan_end_lem}
+use Rattle.scan.specs.declared.ScanError.TheVariants as answer
 use Rattle.net.specs.declared.Refusal.{Refusal}
 use Rattle.net.proofs.OnNet.{gone_on}
 use Rattle.net.proofs.Good.{good_pair}
@@ -29,6 +28,7 @@ use Rattle.question.specs.Table.{QuestionOutcome, question_outcome, question_cla
 use Rattle.theory_laws.specs.Over.{over}
 use Rattle.questions.specs.Pairs.{pairs_in, subject_at, kind_at}
 use Rattle.questions.specs.Table.{QuestionsOutcome, questions_outcome, bad_pairs, answer_byte, marks_after, answers_from, marks_from, questions_clauses, questions_done, questioned_all}
+use Rattle.questions.specs.declared.PairsError.TheVariants as askedAll
 use Rattle.promises.specs.Engines.{Read}
 use Rattle.promises.proofs.Tests.{chosen_of}
 

@@ -1,6 +1,4 @@
 -- Our engine keeps what is promised of the proof and of the proof check.
-use Rattle.proof.specs.declared.ProofError.TheVariants as provedAs
-use Rattle.std.specs.Prelude.{Err, Ok}
 use Prim.Native.Nat.{ℕ, ◌+◌, ◌-◌, ◌*◌, ◌≤◌, ◌<◌}
 use mathlib.Core.Path.{◌≡◌, refl, sym, ap, subst, ◌∙◌}
 use mathlib.Core.Bool.{Bool, true, false, cond}
@@ -11,6 +9,7 @@ use lib.Dec.{eqb, ltb}
 use lib.ListN.{length, take, drop}
 use lib.Seq.{take_at, drop_at}
 use borrow.Author.Tests.{ltb-true, ltb-false, lt-ltb, le-ltb}
+use Rattle.std.specs.Prelude.{Err, Ok}
 use Rattle.theory_laws.specs.Over.{over}
 use Rattle.theory_laws.proofs.Over.{length_over}
 use Rattle.theory.specs.Words.{sign_at}
@@ -26,10 +25,10 @@ use Rattle.net.proofs.Good.{good_statement, good_kind}
 use Rattle.reason.specs.Table.{filled, reason_of}
 use Rattle.proof_form.specs.Ours.{our_file, our_depth}
 use Rattle.proof_form.proofs.Building as building
-use Rattle.proof.specs.Table.{ProofOutcome, links_of, proof_of, proved, proved_reply}
-use Rattle.proof.specs.Table.{Proved}
+use Rattle.proof.specs.Table.{ProofOutcome, links_of, proof_of, proved, proved_reply, Proved}
 use Rattle.proof.proofs.Ours.{OurProof, our_proof}
 use Rattle.proof.proofs.AfterReason.{done_proves, scratch_as_reason}
+use Rattle.proof.specs.declared.ProofError.TheVariants as provedAs
 use Rattle.proof_check.proofs.Exactly.{judged_exactly, faulty_exactly, no_step_exactly, judged_supported}
 use Rattle.promises.specs.Engines.{Read, ours}
 use Rattle.promises.specs.Numbers.{proof_number}

@@ -1,14 +1,13 @@
 -- Our engine's reasons are the shortest, and its check accepts exactly the paths that show the statement.
-use Rattle.reason.specs.declared.ReasonError.TheVariants as reasonedAs
-use Rattle.std.specs.Prelude.{Err, Ok, false, true}
 use Prim.Native.Nat.{ℕ, ◌+◌, ◌≤◌, ◌<◌}
 use mathlib.Core.Path.{◌≡◌, refl, sym, ap, ◌∙◌}
-use mathlib.Core.Bool.{Bool, true, false, cond}
+use mathlib.Core.Bool.{Bool, true, false}
 use mathlib.Core.List.{List, ◌++◌}
 use native.Mathlib.Omega.{arith}
 use lib.Dec.{eqb}
 use lib.ListN.{length, get_or, drop, get_or-append}
 use borrow.Author.Tests.{ltb-true, ltb-false}
+use Rattle.std.specs.Prelude.{Err, Ok}
 use Rattle.theory_laws.proofs.Booleans.{contradiction}
 use Rattle.theory.specs.Words.{Sign, sign_at}
 use Rattle.theory.specs.Nets.{Kind, Links, Net}
@@ -23,10 +22,9 @@ use Rattle.theory.proofs.reason.Check.{passes_exactly, passes_supported}
 use Rattle.net.specs.Table.{bad_statement}
 use Rattle.net.specs.declared.Refusal.{Refusal}
 use Rattle.net.proofs.Good.{good_statement, good_kind}
-use Rattle.reason.specs.Table.{ReasonOutcome, filled, reason_of, reasoned, reasoned_reply}
-use Rattle.reason.specs.Table.{Reasoned}
-use Rattle.reason_check.specs.Table.{verdict, verdict_reply}
-use Rattle.reason_check.specs.Table.{Verdict}
+use Rattle.reason.specs.Table.{ReasonOutcome, filled, reason_of, reasoned, reasoned_reply, Reasoned}
+use Rattle.reason.specs.declared.ReasonError.TheVariants as reasonedAs
+use Rattle.reason_check.specs.Table.{verdict, verdict_reply, Verdict}
 use Rattle.promises.specs.Engines.{ours}
 use Rattle.promises.specs.Reasoning.{ReasonOf, Reasoning}
 use Rattle.promises.proofs.Demand1.{reason_obeys, check_obeys}
@@ -153,14 +151,11 @@ module _ (o k : ℕ) (ws : List ℕ) (set x y sign : ℕ) where
         (chosen_of o k ws set ((past_checks o k ws set).0 (u.0, u.1.0, u.1.1.0, u.1.1.1.0)), kind_of o k x y sign u.1.1.1.1.0, (check_obeys o k ws set x y sign l).leaves 0 u)
 
     -- Which verdict it was tells the test.
-    abbrev only : Verdict → Verdict
-    only r = r
-
-    was_true : (q : Bool) → only (Ok true) ≡ Ok q → q ≡ true
+    was_true : (q : Bool) → ◌≡◌ {A = Verdict} (Ok true) (Ok q) → q ≡ true
     was_true true e = refl
     was_true false e = contradiction (ap (λ (r : Verdict). eqb (verdict_reply r).first 0) e)
 
-    was_false : (q : Bool) → only (Ok false) ≡ Ok q → q ≡ false
+    was_false : (q : Bool) → ◌≡◌ {A = Verdict} (Ok false) (Ok q) → q ≡ false
     was_false true e = contradiction (sym (ap (λ (r : Verdict). eqb (verdict_reply r).first 0) e))
     was_false false e = refl
 

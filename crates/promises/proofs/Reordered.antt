@@ -1,8 +1,5 @@
 -- Links stand in any order and a repeated word counts once, for the operations that are neither a scan nor a question: over two nets of which the same words are chosen the completion,
 -- the clash test, the reason and the reason check do the same.
-use Rattle.reason.specs.declared.ReasonError.TheVariants as reasonedAs
-use Rattle.completion.specs.declared.CompletionError.TheVariants as completed
-use Rattle.std.specs.Prelude.{Err}
 use Prim.Native.Nat.{ℕ, zero, suc, ◌+◌, ◌≤◌, ◌<◌}
 use mathlib.Core.Path.{◌≡◌, refl, sym, ap, ◌∙◌}
 use mathlib.Core.Bool.{Bool, true, false}
@@ -12,6 +9,7 @@ use native.Mathlib.Omega.{arith}
 use lib.Dec.{eqb, ltb}
 use lib.ListN.{length, get_or, drop}
 use lib.Seq.{ext_get_or}
+use Rattle.std.specs.Prelude.{Err}
 use Rattle.theory_laws.proofs.Booleans.{same_test}
 use Rattle.theory.specs.Words.{Sign, is, isnt, sign_number, sign_at}
 use Rattle.theory.specs.Nets.{Kind, Links, Net, AllIn}
@@ -30,10 +28,11 @@ use Rattle.net.specs.Table.{bad_statement}
 use Rattle.net.specs.declared.Refusal.{Refusal}
 use Rattle.net.proofs.NetCheck.{net_is_checked}
 use Rattle.net.proofs.OnNet.{gone_on}
-use Rattle.clash.specs.Table.{ClashOutcome, clash_outcome, clash_nodes, first_clash, clash_search, clash_clauses, clash_done, clashed_by}
-use Rattle.clash.specs.Table.{Clashed}
+use Rattle.clash.specs.Table.{ClashOutcome, clash_outcome, clash_nodes, first_clash, clash_search, clash_clauses, clash_done, clashed_by, Clashed}
 use Rattle.completion.specs.Table.{CompletionOutcome, completion_outcome, completion_clauses, completion_done, completed_by}
+use Rattle.completion.specs.declared.CompletionError.TheVariants as completed
 use Rattle.reason.specs.Table.{ReasonOutcome, reason_outcome, filled, reason_of, found_clauses, found_done, reason_clauses, reason_done, reasoned}
+use Rattle.reason.specs.declared.ReasonError.TheVariants as reasonedAs
 use Rattle.reason_check.specs.Table.{check_clauses, check_done, verdict}
 use Rattle.promises.specs.Engines.{Read}
 use Rattle.promises.proofs.Tests.{chosen_of}

@@ -1,25 +1,24 @@
 -- Links stand in any order and a repeated word counts once: over two nets of which the same words are chosen the explanation is the same, but for the indices of links.
-use Rattle.explain.specs.declared.ExplainError.TheVariants as explainedAs
-use Rattle.reason.specs.declared.ReasonError.TheVariants as reasonedAs
-use Rattle.std.specs.Prelude.{Err, Ok}
 use Prim.Native.Nat.{ℕ, ◌*◌}
 use mathlib.Core.Path.{◌≡◌, refl, sym, ap, subst, ◌∙◌}
 use mathlib.Core.Bool.{Bool, true, false, cond}
 use mathlib.Core.List.{List, ◌++◌, map}
 use lib.Dec.{ltb}
 use lib.ListN.{length, take, drop}
+use Rattle.std.specs.Prelude.{Err, Ok}
 use Rattle.theory_laws.specs.Over.{over}
 use Rattle.theory.specs.Words.{isnt}
 use Rattle.theory.specs.Nets.{AllIn}
 use Rattle.theory.specs.Origins.{chosen}
-use Rattle.reason.specs.Table.{ReasonOutcome, reasoned}
-use Rattle.reason.specs.Table.{Reasoned}
+use Rattle.reason.specs.Table.{ReasonOutcome, reasoned, Reasoned}
+use Rattle.reason.specs.declared.ReasonError.TheVariants as reasonedAs
 use Rattle.derivation_lines.specs.Lines.{Line}
 use Rattle.derivation_lines.specs.Flat.{flat, derive_list}
 use Rattle.derivation_lines.proofs.Flatness.{flat_length}
 use Rattle.explain.specs.Table.{ExplainOutcome, explain_outcome, explained}
 use Rattle.explain.specs.Found.{write_lines, explained_by}
 use Rattle.explain.proofs.Found.{explained_by_lem}
+use Rattle.explain.specs.declared.ExplainError.TheVariants as explainedAs
 use Rattle.promises.specs.Engines.{Read}
 use Rattle.promises.specs.Origins.{unindexed, SameButIndices}
 use Rattle.promises.proofs.Tests.{chosen_of}

@@ -1,13 +1,11 @@
 -- Links stand in any order and a repeated word counts once: over two nets of which the same words are chosen the proof and the proof check do the same.
-use Rattle.proof_check.specs.declared.JudgeError.TheVariants as judgedAs
-use Rattle.proof.specs.declared.ProofError.TheVariants as provedAs
-use Rattle.std.specs.Prelude.{Err}
 use Prim.Native.Nat.{ℕ, zero, suc, ◌+◌, ◌-◌, ◌*◌, ◌/◌, ◌<◌}
 use mathlib.Core.Path.{◌≡◌, refl, sym, ap, ◌∙◌}
 use mathlib.Core.Bool.{Bool, true, false, cond, ◌&&◌, ◌||◌}
 use mathlib.Core.List.{List, [], ◌∷◌, ◌++◌}
 use lib.Dec.{eqb, ltb, leb}
 use lib.ListN.{length, get_or, drop}
+use Rattle.std.specs.Prelude.{Err}
 use Rattle.theory_laws.proofs.Booleans.{same_test}
 use Rattle.theory.specs.Words.{Sign, isnt, word, sign_at}
 use Rattle.theory.specs.Nets.{Kind, Net, AllIn}
@@ -33,7 +31,9 @@ use Rattle.proof_form.specs.declared.Found.{Found}
 use Rattle.proof_form.specs.declared.Found.TheVariants.{Nowhere}
 use Rattle.proof_form.proofs.Tests.{decides_stands}
 use Rattle.proof.specs.Table.{ProofOutcome, proof_outcome, links_of, proof_of, room_clauses, room_done, proof_clauses, proof_done, proved}
+use Rattle.proof.specs.declared.ProofError.TheVariants as provedAs
 use Rattle.proof_check.specs.Table.{fault_clause, judged_clauses, judged_done, judged}
+use Rattle.proof_check.specs.declared.JudgeError.TheVariants as judgedAs
 use Rattle.promises.specs.Engines.{Read}
 use Rattle.promises.proofs.Tests.{chosen_of}
 use Rattle.promises.proofs.Orders.{after_tests}

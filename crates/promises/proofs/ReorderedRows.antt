@@ -1,6 +1,4 @@
 -- Over two nets of which the same words are chosen the completion by rows does the same, in whatever order they stand.
-use Rattle.completion.specs.declared.CompletionError.TheVariants as completed
-use Rattle.std.specs.Prelude.{Err}
 use Prim.Native.Nat.{ℕ, zero, suc, ◌+◌, ◌≤◌}
 use mathlib.Core.Path.{◌≡◌, refl, sym, ap, ◌∙◌}
 use mathlib.Core.Bool.{◌&&◌}
@@ -8,6 +6,7 @@ use mathlib.Core.List.{List, ◌++◌}
 use native.Mathlib.Omega.{arith}
 use lib.Dec.{leb, ltb}
 use lib.ListN.{get_or}
+use Rattle.std.specs.Prelude.{Err}
 use Rattle.theory.specs.Words.{Sign, is, isnt}
 use Rattle.theory.specs.Nets.{Net, AllIn}
 use Rattle.theory.specs.Origins.{chosen}
@@ -20,6 +19,7 @@ use Rattle.rows_completion.specs.Table.{RowsOutcome, rows_outcome, rows_clauses,
 use Rattle.promises.specs.Engines.{Read}
 use Rattle.promises.proofs.Tests.{chosen_of}
 use Rattle.promises.proofs.Reordered.{full_same, complete_same}
+use Rattle.completion.specs.declared.CompletionError.TheVariants as completed
 
 module _ (o k : ℕ) (ws vs : List ℕ) (n : Net o k ws) (p : Net o k vs) (to : AllIn ws vs) (from : AllIn vs ws) (s : Sign) where
   rows_of_same : (w x j : ℕ) → x + j ≤ o + k → rows_of (answers o k ws s) w x j ≡ rows_of (answers o k vs s) w x j

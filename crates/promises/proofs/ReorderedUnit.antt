@@ -1,6 +1,4 @@
 -- Over two nets of which the same words are chosen the marker unit does the same, in whatever order they stand.
-use Rattle.unit.specs.declared.UnitError.TheVariants as simulatedAs
-use Rattle.std.specs.Prelude.{Err, Ok}
 use Prim.Native.Nat.{ℕ, ◌+◌}
 use mathlib.Core.Path.{◌≡◌, refl, sym, ap, ◌∙◌}
 use mathlib.Core.Bool.{cond, not}
@@ -10,6 +8,7 @@ use lib.Dec.{ltb}
 use lib.ListN.{length, take, drop}
 use lib.Seq.{length-take-le}
 use borrow.Author.Tests.{ltb-false}
+use Rattle.std.specs.Prelude.{Err, Ok}
 use Rattle.theory.specs.Nets.{AllIn}
 use Rattle.theory.specs.Origins.{chosen}
 use Rattle.theory.specs.Scans.{Scan}
@@ -18,6 +17,7 @@ use Rattle.net.specs.declared.Refusal.{Refusal}
 use Rattle.net.proofs.NetCheck.{net_is_checked}
 use Rattle.net.proofs.OnNet.{gone_on}
 use Rattle.unit.specs.Table.{UnitOutcome, unit_outcome, bad_program, unit_clauses, unit_done, simulated}
+use Rattle.unit.specs.declared.UnitError.TheVariants as simulatedAs
 use Rattle.promises.specs.Engines.{Read}
 use Rattle.promises.proofs.Tests.{chosen_of}
 use Rattle.promises.proofs.Orders.{after_tests}

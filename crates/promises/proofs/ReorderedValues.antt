@@ -1,10 +1,9 @@
 -- Links stand in any order and a repeated word counts once: over two nets of which the same words are chosen a valuation does the same.
-use Rattle.valuation.specs.declared.ValuationError.TheVariants as filled
-use Rattle.std.specs.Prelude.{Err}
 use Prim.Native.Nat.{ℕ, zero, suc, ◌+◌, ◌≤◌}
 use mathlib.Core.Path.{◌≡◌, refl, sym, ap, ◌∙◌}
 use mathlib.Core.List.{List}
 use native.Mathlib.Omega.{arith}
+use Rattle.std.specs.Prelude.{Err}
 use Rattle.theory.specs.Nets.{Net, AllIn}
 use Rattle.theory.specs.Origins.{chosen}
 use Rattle.net.specs.Clauses.{call}
@@ -13,6 +12,7 @@ use Rattle.net.proofs.NetCheck.{net_is_checked}
 use Rattle.net.proofs.OnNet.{gone_on}
 use Rattle.valuation.specs.Values.{value_rows, own_values}
 use Rattle.valuation.specs.Table.{ValuationOutcome, valuation_outcome, valuation_clauses, valuation_done, filled_by}
+use Rattle.valuation.specs.declared.ValuationError.TheVariants as filled
 use Rattle.promises.specs.Engines.{Read}
 use Rattle.promises.proofs.Tests.{chosen_of}
 use Rattle.promises.proofs.Reordered.{full_same}

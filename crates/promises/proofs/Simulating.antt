@@ -1,7 +1,4 @@
 -- The marker unit does what is promised of it.
-use Rattle.unit.specs.declared.UnitError.TheVariants as simulatedAs
-use Rattle.scan.specs.declared.ScanError.TheVariants as answer
-use Rattle.std.specs.Prelude.{Err, Ok}
 use Prim.Native.Nat.{ℕ, ◌+◌, ◌-◌, ◌*◌, ◌/◌, ◌≤◌, ◌<◌}
 use mathlib.Core.Path.{◌≡◌, refl, sym, ap, ◌∙◌}
 use mathlib.Core.Bool.{Bool, true, false, cond, not}
@@ -11,13 +8,14 @@ use native.Mathlib.Omega.{arith}
 use lib.Dec.{ltb}
 use lib.ListN.{length, take, drop}
 use borrow.Author.Tests.{leb-false, ltb-true, ltb-false, le-ltb, lt-leb, not-true}
+use Rattle.std.specs.Prelude.{Err, Ok}
 use Rattle.theory.specs.Scans.{Scan, scan, full_budget, full_scan}
 use Rattle.theory.specs.Origins.{chosen}
 use Rattle.net.specs.declared.Refusal.{Refusal}
 use Rattle.net.proofs.NetCheck.{net_is_checked}
 use Rattle.net.proofs.OnNet.{gone_on}
-use Rattle.scan.specs.Table.{ScanOutcome, scanned, scan_reply}
-use Rattle.scan.specs.Table.{Scanned}
+use Rattle.scan.specs.Table.{ScanOutcome, scanned, scan_reply, Scanned}
+use Rattle.scan.specs.declared.ScanError.TheVariants as answer
 use Rattle.unit_program.specs.Faults.{first_fault}
 use Rattle.unit_program.specs.Wrong.{FirstWrong}
 use Rattle.unit_program.specs.Runs.{run}
@@ -27,10 +25,10 @@ use Rattle.unit_program.proofs.FirstFault.{first_wrong, first_wrong_unique}
 use Rattle.unit_program.proofs.Stepping.{run_steps}
 use Rattle.unit_program.proofs.Determined.{runs_unique}
 use Rattle.unit_program.proofs.MergedScan.{merged_sound}
-use Rattle.unit.specs.Table.{UnitOutcome, unit_outcome, told_place, unit_clauses, unit_done, simulated, simulated_reply}
-use Rattle.unit.specs.Table.{Simulated}
+use Rattle.unit.specs.Table.{UnitOutcome, unit_outcome, told_place, unit_clauses, unit_done, simulated, simulated_reply, Simulated}
 use Rattle.unit.proofs.Outcomes.{told_near}
 use Rattle.unit.proofs.Merged.{merged_simulated, merged_short, merged_as_scan}
+use Rattle.unit.specs.declared.UnitError.TheVariants as simulatedAs
 use Rattle.promises.specs.Engines.{Read, ours}
 use Rattle.promises.specs.Simulating.{Simulating}
 use Rattle.promises.proofs.Demand1.{scan_obeys, unit_obeys}

@@ -4,44 +4,26 @@ use Prim.Native.Nat.{ℕ}
 use mathlib.Core.Path.{◌≡◌, refl, sym, ap, ◌∙◌}
 use mathlib.Core.List.{List, ◌++◌}
 use lib.ListN.{length, drop}
-use Rattle.check_word.specs.Table.{check_word}
-use Rattle.check_word.specs.Table.{WordChecked}
-use Rattle.net.specs.Table.{check_net}
-use Rattle.net.specs.Table.{Checked}
-use Rattle.scan.specs.Table.{ScanOutcome, scan_outcome, scanned}
-use Rattle.scan.specs.Table.{Scanned}
-use Rattle.question.specs.Table.{QuestionOutcome, question_outcome, questioned}
-use Rattle.questions.specs.Table.{QuestionsOutcome, questions_outcome, questioned_all}
-use Rattle.questions.specs.Table.{AskedAll}
-use Rattle.clash.specs.Table.{ClashOutcome, clash_outcome, clashed_by}
-use Rattle.question.specs.Table.{Asked}
-use Rattle.clash.specs.Table.{Clashed}
-use Rattle.completion.specs.Table.{CompletionOutcome, completion_outcome, completed_by}
-use Rattle.completion.specs.Table.{Completed}
-use Rattle.compact.specs.Table.{CompactionOutcome, compaction_outcome, compacted_by}
-use Rattle.compact.specs.Table.{CompactedList}
-use Rattle.mend.specs.Table.{MendingOutcome, mending_outcome, mended_by}
-use Rattle.mend.specs.Table.{MendedNet}
-use Rattle.reason.specs.Table.{ReasonOutcome, reason_outcome, reasoned}
-use Rattle.reason.specs.Table.{Reasoned}
-use Rattle.reason_check.specs.Table.{verdict}
-use Rattle.reason_check.specs.Table.{Verdict}
-use Rattle.proof.specs.Table.{ProofOutcome, proof_outcome, proved}
-use Rattle.proof.specs.Table.{Proved}
-use Rattle.proof_check.specs.Table.{judged}
-use Rattle.proof_check.specs.Table.{Judged}
-use Rattle.explain.specs.Table.{ExplainOutcome, explain_outcome, explained}
-use Rattle.explain.specs.Table.{Explained}
+use Rattle.check_word.specs.Table.{check_word, WordChecked}
+use Rattle.net.specs.Table.{check_net, Checked}
+use Rattle.scan.specs.Table.{ScanOutcome, scan_outcome, scanned, Scanned}
+use Rattle.question.specs.Table.{QuestionOutcome, question_outcome, questioned, Asked}
+use Rattle.questions.specs.Table.{QuestionsOutcome, questions_outcome, questioned_all, AskedAll}
+use Rattle.clash.specs.Table.{ClashOutcome, clash_outcome, clashed_by, Clashed}
+use Rattle.completion.specs.Table.{CompletionOutcome, completion_outcome, completed_by, Completed}
+use Rattle.compact.specs.Table.{CompactionOutcome, compaction_outcome, compacted_by, CompactedList}
+use Rattle.mend.specs.Table.{MendingOutcome, mending_outcome, mended_by, MendedNet}
+use Rattle.reason.specs.Table.{ReasonOutcome, reason_outcome, reasoned, Reasoned}
+use Rattle.reason_check.specs.Table.{verdict, Verdict}
+use Rattle.proof.specs.Table.{ProofOutcome, proof_outcome, proved, Proved}
+use Rattle.proof_check.specs.Table.{judged, Judged}
+use Rattle.explain.specs.Table.{ExplainOutcome, explain_outcome, explained, Explained}
 use Rattle.derivation_check.specs.Table.{lines_verdict}
-use Rattle.unit.specs.Table.{UnitOutcome, unit_outcome, simulated}
-use Rattle.unit.specs.Table.{Simulated}
-use Rattle.valuation.specs.Table.{ValuationOutcome, valuation_outcome, filled_by}
-use Rattle.valuation.specs.Table.{Filled}
-use Rattle.satisfies.specs.Table.{tested_by}
-use Rattle.satisfies.specs.Table.{Tested}
+use Rattle.unit.specs.Table.{UnitOutcome, unit_outcome, simulated, Simulated}
+use Rattle.valuation.specs.Table.{ValuationOutcome, valuation_outcome, filled_by, Filled}
+use Rattle.satisfies.specs.Table.{tested_by, Tested}
 use Rattle.rows_completion.specs.Table.{RowsOutcome, rows_outcome, completed_by_rows}
-use Rattle.rows_answer.specs.Table.{answered_in_rows}
-use Rattle.rows_answer.specs.Table.{Answered}
+use Rattle.rows_answer.specs.Table.{answered_in_rows, Answered}
 use Rattle.netfile.specs.Contents.{Contents, contents_of, bodies_of}
 use Rattle.ask_text.specs.Text.{text_of}
 use Rattle.net.specs.Clauses.{Clause}

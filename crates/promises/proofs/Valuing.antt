@@ -1,5 +1,4 @@
 -- Our engine keeps what is promised of valuations.
-use Rattle.std.specs.Prelude.{Ok, false, true}
 use Prim.Native.Nat.{ℕ, ◌+◌, ◌*◌, ◌≤◌, ◌<◌}
 use mathlib.Core.Path.{◌≡◌, sym, ap, subst, ◌∙◌}
 use mathlib.Core.List.{List, Memᴰ}
@@ -8,6 +7,7 @@ use native.Mathlib.Omega.{arith}
 use lib.ListN.{length, drop}
 use lib.Seq.{drop_at}
 use borrow.Author.Tests.{ltb-false, le-ltb}
+use Rattle.std.specs.Prelude.{Ok, false, true}
 use Rattle.theory_laws.proofs.Booleans.{contradiction}
 use Rattle.theory_laws.specs.Over.{over}
 use Rattle.theory_laws.proofs.Over.{length_over}
@@ -22,13 +22,11 @@ use Rattle.theory.proofs.valuation.Implied.{supported_implied, supported_exactly
 use Rattle.net.specs.Good.{GoodStatement}
 use Rattle.net.proofs.Good.{good_kind}
 use Rattle.scan_start.specs.Starts.{cleared}
-use Rattle.question.specs.Table.{answer_number}
+use Rattle.question.specs.Table.{answer_number, questioned}
 use Rattle.question.specs.declared.Answer.{Answer}
 use Rattle.question.specs.declared.Answer.TheVariants.{None}
-use Rattle.question.specs.Table.{questioned}
 use Rattle.valuation.specs.Values.{own_values}
-use Rattle.valuation.specs.Table.{ValuationOutcome, filled_by, filled_reply}
-use Rattle.valuation.specs.Table.{Filled}
+use Rattle.valuation.specs.Table.{ValuationOutcome, filled_by, filled_reply, Filled}
 use Rattle.valuation.proofs.Rows.{own_long}
 use Rattle.valuation.proofs.Exact.{filled_byte, filled_valued, filled_exactly, filled_model}
 use Rattle.satisfies.specs.Table.{tested_by}

@@ -1,5 +1,4 @@
 -- Each of the four worthless engines, and the one that looks right, breaks a demand; the input at which it does stands in its proof.
-use Rattle.std.specs.Prelude.{Ok, Err}
 use Prim.Native.Nat.{ℕ, ◌+◌, ◌≤◌}
 use mathlib.Core.Path.{◌≡◌, refl, sym, ap, subst, ◌∙◌}
 use mathlib.Core.Bool.{false}
@@ -9,6 +8,7 @@ use native.Mathlib.Omega.{arith}
 use lib.Dec.{eqb}
 use lib.ListN.{length, get_or}
 use borrow.Author.Tests.{le-ltb}
+use Rattle.std.specs.Prelude.{Ok, Err}
 use Rattle.theory.specs.NetM.{M}
 use Rattle.theory_laws.proofs.Booleans.{contradiction}
 use Rattle.theory.specs.Words.{isnt, word_limit}
@@ -24,11 +24,9 @@ use Rattle.net.specs.Table.{check_net}
 use Rattle.net.specs.declared.Refusal.{Refusal}
 use Rattle.net.proofs.Replies.{refusal_not}
 use Rattle.scan.specs.Table.{ScanOutcome, scan_outcome, scanned}
-use Rattle.question.specs.Table.{asked_reply}
+use Rattle.question.specs.Table.{asked_reply, Asked, question_table}
 use Rattle.question.specs.declared.Answer.TheVariants.{None}
-use Rattle.question.specs.Table.{Asked}
 use Rattle.promises.specs.Tables.{Due}
-use Rattle.question.specs.Table.{question_table}
 use Rattle.promises.specs.Engines.{Engine, Read, HasZero}
 use Rattle.promises.specs.Demand1.{Demand1}
 use Rattle.promises.specs.Demand2.{Demand2}

@@ -1,9 +1,8 @@
 -- Demand 3: a completed list holds just what the chosen words support; and the laws of completed and of joined nets, over what the engine answers.
 -- Nets are over one set of nodes. Words are chosen, and their origins removed, before anything is completed or joined; plain lists are joined inside the
 -- limit on words, and they are read with a set that has origin 0.
-use Rattle.completion.specs.declared.CompletionError.TheVariants as completed
-use Rattle.std.specs.Prelude.{ℕ, ◌+◌, ◌≤◌, ◌<◌, ◌≡◌, Bool, true, false, ◌↔◌, length, drop, Err, Ok}
 use mathlib.Core.List.{List, ◌++◌, Memᴰ}
+use Rattle.std.specs.Prelude.{ℕ, ◌+◌, ◌≤◌, ◌<◌, ◌≡◌, Bool, true, false, ◌↔◌, length, drop, Err, Ok}
 use Rattle.theory.specs.Words.{Sign, tail_of, word_limit}
 use Rattle.theory.specs.Nets.{Net}
 use Rattle.theory.specs.Origins.{chosen}
@@ -11,6 +10,7 @@ use Rattle.theory.specs.Completion.{Lists}
 use Rattle.scan_start.specs.Starts.{cleared}
 use Rattle.question.specs.Table.{Asked}
 use Rattle.completion.specs.Table.{completion_outcome}
+use Rattle.completion.specs.declared.CompletionError.TheVariants as completed
 use Rattle.promises.specs.Engines.{Engine, Read, HasZero}
 use Rattle.promises.specs.Demand2.{says}
 

@@ -4,11 +4,9 @@ use Rattle.std.specs.Prelude.{ℕ, ◌+◌, ◌≤◌, ◌≡◌, true, cond, Li
 use Rattle.theory.specs.Scans.{Scan}
 use Rattle.theory.specs.Origins.{set_limit, among, chosen, NetFrom}
 use Rattle.net.specs.Clauses.{clause, call}
-use Rattle.net.specs.Table.{check_net, net_clauses}
+use Rattle.net.specs.Table.{check_net, net_clauses, Checked}
 use Rattle.net.specs.declared.Refusal.TheVariants.{BadQuestion, ShortBuffer}
-use Rattle.net.specs.Table.{Checked}
-use Rattle.check_word.specs.Table.{check_word}
-use Rattle.check_word.specs.Table.{WordChecked}
+use Rattle.check_word.specs.Table.{check_word, WordChecked}
 use Rattle.scan.specs.Table.{ScanOutcome, scan_outcome, bad_start, scanned}
 use Rattle.question.specs.Table.{QuestionOutcome, questioned}
 use Rattle.questions.specs.Table.{QuestionsOutcome, questioned_all}
@@ -17,20 +15,16 @@ use Rattle.completion.specs.Table.{CompletionOutcome, completed_by}
 use Rattle.compact.specs.Table.{CompactionOutcome, compacted_by}
 use Rattle.mend.specs.Table.{MendingOutcome, mended_by}
 use Rattle.reason.specs.Table.{ReasonOutcome, reasoned}
-use Rattle.reason_check.specs.Table.{verdict}
-use Rattle.reason_check.specs.Table.{Verdict}
+use Rattle.reason_check.specs.Table.{verdict, Verdict}
 use Rattle.proof.specs.Table.{ProofOutcome, proved}
-use Rattle.proof_check.specs.Table.{judged}
-use Rattle.proof_check.specs.Table.{Judged}
+use Rattle.proof_check.specs.Table.{judged, Judged}
 use Rattle.explain.specs.Table.{ExplainOutcome, explained}
 use Rattle.derivation_check.specs.Table.{lines_verdict}
 use Rattle.unit.specs.Table.{UnitOutcome, simulated}
 use Rattle.valuation.specs.Table.{ValuationOutcome, filled_by}
-use Rattle.satisfies.specs.Table.{tested_by}
-use Rattle.satisfies.specs.Table.{Tested}
+use Rattle.satisfies.specs.Table.{tested_by, Tested}
 use Rattle.rows_completion.specs.Table.{RowsOutcome, completed_by_rows}
-use Rattle.rows_answer.specs.Table.{answered_in_rows}
-use Rattle.rows_answer.specs.Table.{Answered}
+use Rattle.rows_answer.specs.Table.{answered_in_rows, Answered}
 
 -- The operations, the test of a word first, each over objects, kinds, words, a set of origins, what is asked, and the lent buffers as they are at entry.
 -- Compaction and mending read a plain list and no set; what is compacted is lent to be written. The test of a statement reads a table and no words,

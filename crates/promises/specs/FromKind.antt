@@ -1,6 +1,6 @@
 -- The laws of demand 3 about answers, asked from the kind: over the marks that a scan from a kind leaves when it is done.
-use Rattle.std.specs.Prelude.{ℕ, ◌+◌, ◌*◌, ◌-◌, ◌≤◌, ◌<◌, ◌≡◌, ◌↔◌, length, Ok}
 use mathlib.Core.List.{List, ◌++◌, Memᴰ}
+use Rattle.std.specs.Prelude.{ℕ, ◌+◌, ◌*◌, ◌-◌, ◌≤◌, ◌<◌, ◌≡◌, ◌↔◌, length, Ok}
 use Rattle.theory.specs.Words.{Sign, tail_of}
 use Rattle.theory.specs.Nets.{Kind}
 use Rattle.theory.specs.Marks.{At, marker_to, U}

@@ -1,6 +1,6 @@
 -- What is promised of mending ([9]): which words are kept, that they have no clash, and what every dropped word clashes at.
-use Rattle.std.specs.Prelude.{ℕ, ◌+◌, ◌*◌, ◌≤◌, ◌≡◌, length, None, Ok}
 use mathlib.Core.List.{List, [], ◌∷◌, ◌++◌, Memᴰ}
+use Rattle.std.specs.Prelude.{ℕ, ◌+◌, ◌*◌, ◌≤◌, ◌≡◌, length, None, Ok}
 use Rattle.theory_laws.specs.Over.{over}
 use Rattle.theory.specs.Nets.{Net}
 use Rattle.theory.specs.Clashes.{ClashAt, ClashFree}

@@ -1,9 +1,7 @@
 -- The paper's number of each outcome.
 use Rattle.std.specs.Prelude.{ℕ}
-use Rattle.net.specs.Table.{checked_reply}
-use Rattle.net.specs.Table.{Checked}
-use Rattle.check_word.specs.Table.{word_reply}
-use Rattle.check_word.specs.Table.{WordChecked}
+use Rattle.net.specs.Table.{checked_reply, Checked}
+use Rattle.check_word.specs.Table.{word_reply, WordChecked}
 use Rattle.scan.specs.Table.{ScanOutcome, scan_reply}
 use Rattle.question.specs.Table.{QuestionOutcome, asked_reply}
 use Rattle.questions.specs.Table.{QuestionsOutcome, asked_all_reply}
@@ -12,19 +10,15 @@ use Rattle.completion.specs.Table.{CompletionOutcome, completed_reply}
 use Rattle.compact.specs.Table.{CompactionOutcome, compacted_reply}
 use Rattle.mend.specs.Table.{MendingOutcome, mended_reply}
 use Rattle.reason.specs.Table.{ReasonOutcome, reasoned_reply}
-use Rattle.reason_check.specs.Table.{verdict_reply}
-use Rattle.reason_check.specs.Table.{Verdict}
+use Rattle.reason_check.specs.Table.{verdict_reply, Verdict}
 use Rattle.proof.specs.Table.{ProofOutcome, proved_reply}
-use Rattle.proof_check.specs.Table.{judged_reply}
-use Rattle.proof_check.specs.Table.{Judged}
+use Rattle.proof_check.specs.Table.{judged_reply, Judged}
 use Rattle.explain.specs.Table.{ExplainOutcome, explained_reply}
 use Rattle.unit.specs.Table.{UnitOutcome, simulated_reply}
 use Rattle.valuation.specs.Table.{ValuationOutcome, filled_reply}
-use Rattle.satisfies.specs.Table.{tested_reply}
-use Rattle.satisfies.specs.Table.{Tested}
+use Rattle.satisfies.specs.Table.{tested_reply, Tested}
 use Rattle.rows_completion.specs.Table.{RowsOutcome}
-use Rattle.rows_answer.specs.Table.{answered_reply}
-use Rattle.rows_answer.specs.Table.{Answered}
+use Rattle.rows_answer.specs.Table.{answered_reply, Answered}
 use Rattle.netfile.specs.Contents.{contents_reply}
 use Rattle.netfile.specs.Table.{FileOutcome}
 

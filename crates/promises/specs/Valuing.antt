@@ -1,6 +1,6 @@
 -- What a valuation and its test promise ([10]): in the table that is filled holds what is supported and nothing else, and the test says what holds in any table.
-use Rattle.std.specs.Prelude.{ℕ, ◌+◌, ◌*◌, ◌≤◌, ◌<◌, ◌≡◌, true, ◌↔◌, length, drop, Ok, false}
 use mathlib.Core.List.{List, Memᴰ}
+use Rattle.std.specs.Prelude.{ℕ, ◌+◌, ◌*◌, ◌≤◌, ◌<◌, ◌≡◌, true, ◌↔◌, length, drop, Ok, false}
 use Rattle.theory.specs.Words.{Sign, sign_at, tail_of, head_of, parity}
 use Rattle.theory.specs.Nets.{Kind, Links}
 use Rattle.theory.specs.Support.{Supported}

@@ -17,10 +17,9 @@ use Rattle.theory.specs.Origins.{chosen}
 use Rattle.theory.specs.declared.Command.{Command}
 use Rattle.net.specs.declared.Refusal.{Refusal}
 use Rattle.scan.specs.Table.{ScanOutcome, scan_outcome, scan_table}
-use Rattle.question.specs.Table.{question_outcome, question_table, questioned, read_at}
+use Rattle.question.specs.Table.{question_outcome, question_table, questioned, read_at, Asked}
 use Rattle.clash.specs.Table.{clash_outcome}
 use Rattle.question.specs.declared.Answer.TheVariants.{None}
-use Rattle.question.specs.Table.{Asked}
 use Rattle.questions.specs.Table.{questions_outcome}
 use Rattle.completion.specs.Table.{CompletionOutcome, completion_outcome, completion_clauses, completion_done}
 use Rattle.compact.specs.Table.{compaction_outcome}

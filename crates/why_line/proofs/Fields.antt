@@ -11,7 +11,9 @@ use lib.ListN.{length, get_or, length-append}
 use Rattle.theory.specs.Words.{Sign, is, isnt, sign_at, tail_of, head_of, sign_of}
 use Rattle.theory.specs.Origins.{origin_of}
 use Rattle.text_field.specs.Decimal.{decimal}
+use Rattle.text_field.specs.Writing.{Wrote}
 use Rattle.text_field.proofs.Decimals.{most_digits}
+use Rattle.text_field.proofs.Writing.{rest, room}
 use Rattle.derivation_lines.specs.Lines.{Ground, link, r1, r2, r3, r4, r5, none}
 use Rattle.derivation_lines.specs.Flat.{ground_at, line_at}
 use Rattle.derivation_lines.proofs.OneWay.{zeros}
@@ -27,6 +29,18 @@ word_space w = length-append w (32 ∷ [])
 
 pub named_room : (w : List ℕ) (n b : ℕ) → length (named w n b) ≤ length w + 12
 named_room w n b = simp length-append (omega (arith, most_digits 10 n))
+
+-- Where there is room for a word and twelve bytes more, the number that it names fits,
+pub named_fits : (w : List ℕ) (n b : ℕ) (l : List ℕ) → length w + 12 ≤ length l → length (named w n b) ≤ length l
+named_fits w n b l h = omega (arith, named_room w n b)
+
+-- and its writer leaves all but that room to the next one.
+pub named_left : (w : List ℕ) (n b : ℕ) {l xs : List ℕ} {at : ℕ} → Wrote (named w n b) l xs at → length w + 12 ≤ length l
+    → (at ≤ length w + 12) × ((at ≤ length xs) × (length l ≤ length (rest at xs) + (length w + 12)))
+named_left w n b {l} v h =
+    let size = named_room w n b in
+    let left = room v (named_fits w n b l h) in
+    (omega (arith, v.size, size), (left.1.0, omega (arith, left.1.1, size)))
 
 -- ── the sign and the head ──
 pub said_is : (sign y : ℕ) → sign ≡ 0 → named is_word y 32 ++ (32 ∷ 32 ∷ 32 ∷ 32 ∷ 32 ∷ []) ≡ said_text (sign_at sign) y
