@@ -61,6 +61,22 @@ pub about_any : (l : List ℕ) (n c : ℕ) → c ≤ length l → about n (held 
 unfolding about
 about_any l n c h = held_any (λ v. eqb (tail_of v) n) (about n) refl (λ v l. refl) l c h
 
+-- The last of the first c words stands in front of the others: it is the word, or the word is sought among those.
+module _ (l : List ℕ) (w last c : ℕ) (h : c ≡ last + 1) where
+  added_last : stands_in w (held l c) ≡ (eqb (get_or l last 0) w || stands_in w (held l last))
+  unfolding held stands_in
+  added_last = rw (h, add-one last) refl
+
+  pub added_here : get_or l last 0 ≡ w → eqb (get_or l last 0) w ≡ stands_in w (held l c)
+  added_here e = rw added_last (rw (eq-eqb (get_or l last 0) w e) refl)
+
+  pub added_before : (get_or l last 0 ≡ w → ⊥) → stands_in w (held l last) ≡ stands_in w (held l c)
+  added_before f = rw added_last (rw (ne_eqb (get_or l last 0) w f) refl)
+
+pub added_none : (l : List ℕ) (w c : ℕ) → c ≡ 0 → false ≡ stands_in w (held l c)
+unfolding held stands_in
+added_none l w c e = rw e refl
+
 -- One of the two lists has the word.
 pub given_added : (ws A : List ℕ) (w : ℕ) (r : Bool) → r ≡ stands_in w A → r ≡ true → true ≡ given ws A w
 given_added ws A w r e f = rw (sym e ∙ f)

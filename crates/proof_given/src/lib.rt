@@ -21,12 +21,16 @@ pub fn is_listed(words: &[u32], set: u32, word: u32) -> bool
     false
 }
 
-// Whether a word is one of the first `count` added.
+// Whether a word is one of the first `count` added. The last of them is looked at first.
 fn is_added(added: &[u32], count: usize, word: u32) -> bool
     requires { count ≤ length added.now }
     ensures { result ≡ stands_in word (held added.now count) }
 {
-    added[..count].contains(&word)
+    if count == 0 {
+        return false;
+    }
+    let last = count - 1;
+    added[last] == word || added[..last].contains(&word)
 }
 
 // Whether one of the first `count` added words is about node `n`.
@@ -37,8 +41,8 @@ pub fn is_about(added: &[u32], count: usize, n: usize) -> bool
     added[..count].iter().any(|&word| tail_of(word) == n)
 }
 
-// Whether a word may be used: it was added, or is a chosen one of the net. The added ones come first: they are few, and the axiom beside a link is among
-// them in every proof of ours.
+// Whether a word may be used: it was added, or is a chosen one of the net. The added ones come first: they are few, and the last of them is the
+// axiom wherever a proof of ours has one beside a link.
 pub fn is_given(words: &[u32], set: u32, added: &[u32], count: usize, word: u32) -> bool
     requires entered { Entered words.now }
     requires room { count ≤ length added.now }
