@@ -31,6 +31,19 @@ pub const CELLS: usize = 1048576;
 
 pub type Room = [u8; CELLS];
 
+// The most bytes of a row: a net that is checked has no more nodes.
+const ROW: usize = 1024;
+
+// Adds bytes to those of a row; true when one of them changed.
+fn add_row(row: &mut [u8], bytes: &[u8]) -> bool {
+    let mut new = 0;
+    for (own, &bits) in row.iter_mut().zip(bytes) {
+        new |= bits & !*own;
+        *own |= bits;
+    }
+    new != 0
+}
+
 // A byte for each node and each kind.
 #[derive(Drop)]
 pub struct Table<'a> {
@@ -92,17 +105,28 @@ impl<'a> Table<'a> {
         (self.nodes.first_kind(), self.nodes.count())
     }
 
-    // (3.2) and (3.4) for each kind q: where x → q, x is and is not whatever q is and is not.
+    // The bytes of x and of each kind in turn.
+    fn row(&mut self, x: usize) -> &mut [u8] {
+        let (o, n) = self.kinds();
+        let start = cell(x, 0);
+        self.cells
+            .get_mut(start.saturating_add(o)..start.saturating_add(n))
+            .unwrap_or(&mut [])
+    }
+
+    // (3.2) and (3.4) for each kind q: where x → q, x is and is not whatever q is and is not. The bytes of q are copied, and stay as they are: x is
+    // another node.
     fn chain(&mut self) -> bool {
         let (o, n) = self.kinds();
+        let mut bytes = [0; ROW];
         let mut changed = false;
         for q in o..n {
+            for (copy, &own) in bytes.iter_mut().zip(&*self.row(q)) {
+                *copy = own;
+            }
             for x in 0..n {
                 if x != q && self.has(x, q, IS) {
-                    for r in o..n {
-                        let bits = self.at(q, r);
-                        changed |= self.add(x, r, bits);
-                    }
+                    changed |= add_row(self.row(x), &bytes);
                 }
             }
         }
@@ -123,18 +147,21 @@ impl<'a> Table<'a> {
         changed
     }
 
-    // (3.5) for each object a: where a ↛ q, the object is none of the kinds that are q.
+    // (3.5) for each kind q: an object a with a ↛ q is none of the kinds that are q.
     fn deny(&mut self) -> bool {
         let (o, n) = self.kinds();
+        let mut bytes = [0; ROW];
         let mut changed = false;
-        for a in 0..o {
-            for q in o..n {
+        for q in o..n {
+            if !(0..o).any(|a| self.has(a, q, IS_NOT)) {
+                continue;
+            }
+            for (p, bits) in (o..n).zip(&mut bytes) {
+                *bits = if self.has(p, q, IS) { IS_NOT } else { 0 };
+            }
+            for a in 0..o {
                 if self.has(a, q, IS_NOT) {
-                    for p in o..n {
-                        if self.has(p, q, IS) {
-                            changed |= self.add(a, p, IS_NOT);
-                        }
-                    }
+                    changed |= add_row(self.row(a), &bytes);
                 }
             }
         }

@@ -234,15 +234,14 @@ impl<'a> Net<'a> {
         Some(Statement::of(word % ORIGIN))
     }
 
-    // The index of the first chosen word that says something.
+    // The index of the first chosen word that says something. The numbers are compared first, since nearly all words differ in them.
     pub fn index_of(self, said: Statement) -> Option<usize> {
-        self.words
-            .iter()
-            .position(|&word| self.link(word) == Some(said))
+        let plain = said.word();
+        self.words.iter().position(|&word| word % ORIGIN == plain && self.link(word) == Some(said))
     }
 
     // Whether a chosen word says it.
     pub fn has(self, said: Statement) -> bool {
-        self.words.iter().any(|&word| self.link(word) == Some(said))
+        self.index_of(said).is_some()
     }
 }

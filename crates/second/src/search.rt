@@ -148,11 +148,14 @@ impl<'a> Search<'a> {
     // The smallest state that follows on a shortest way.
     pub fn next(&self, state: State) -> Option<State> {
         let mut best = None;
+        let here = self.at(state);
         for &word in self.net.words {
             if let Some(link) = self.net.link(word) {
                 for step in steps_of(link) {
-                    let is_nearer = self.at(step.to).saturating_add(1) == self.at(state);
-                    if step.from == state && is_nearer && best.is_none_or(|other| step.to < other) {
+                    if step.from == state
+                        && self.at(step.to).saturating_add(1) == here
+                        && best.is_none_or(|other| step.to < other)
+                    {
                         best = Some(step.to);
                     }
                 }
