@@ -56,7 +56,7 @@ fn split_while<F: Fn(u8) -> bool>(bytes: &[u8], test: F) -> (&[u8], &[u8])
 // The bytes of a line that are still to be read.
 #[derive(Drop)]
 pub struct Fields<'a> {
-    alloc: Global,
+    pub(crate) alloc: Global,
     rest: &'a [u8],
 }
 

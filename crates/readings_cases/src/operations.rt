@@ -1,6 +1,7 @@
-// The operations that a case can ask, with the fields of each: numbers, words, and the buffers as they are before.
+// The operations that a case can ask: the numbers of each, and its lists: words, and the buffers as they are before.
 use crate::fields::{Fault, Fields, Unread};
 use crate::show::show_list;
+use std::alloc::Global;
 use std::io::{self, Write};
 
 // The most bytes that a file has, and the size of the room for the text of `ask`.
@@ -19,17 +20,16 @@ const REASON: usize = 4096;
 
 const WORDS: usize = 16384;
 
-// A net: its numbers of objects and kinds, its words and the set of origins.
-#[derive(Clone, PartialEq, Eq, Drop)]
+// A net, whose words stand in the lists: its numbers of objects and kinds, and the set of origins.
+#[derive(Clone, Copy, PartialEq, Eq)]
 pub struct Net {
     pub o: u32,
     pub k: u32,
-    pub words: Vec<u32>,
     pub set: u32,
 }
 
 // A statement about two nodes, asked of a net.
-#[derive(Clone, PartialEq, Eq, Drop)]
+#[derive(Clone, Copy, PartialEq, Eq)]
 pub struct Asked {
     pub net: Net,
     pub x: u32,
@@ -37,8 +37,8 @@ pub struct Asked {
     pub sign: u32,
 }
 
-// An operation of the two engines, with what it is asked about and what it is lent.
-#[derive(Clone, PartialEq, Eq, Drop)]
+// An operation of the two engines with the numbers that it is asked about.
+#[derive(Clone, Copy, PartialEq, Eq)]
 pub enum Case {
     CheckNet {
         net: Net,
@@ -52,130 +52,132 @@ pub enum Case {
         net: Net,
         start: u32,
         budget: u32,
-        marks: Vec<u8>,
     },
     Question {
         net: Net,
         x: u32,
         y: u32,
-        marks: Vec<u8>,
     },
     Questions {
         net: Net,
-        pairs: Vec<u16>,
-        answers: Vec<u8>,
-        marks: Vec<u8>,
     },
     Completion {
         net: Net,
-        marks: Vec<u8>,
-        list: Vec<u32>,
     },
     CompletionByRows {
         net: Net,
-        yes: Vec<u64>,
-        no: Vec<u64>,
-        list: Vec<u32>,
     },
     AnswerInRows {
         o: u32,
         k: u32,
-        yes: Vec<u64>,
-        no: Vec<u64>,
         x: u32,
         y: u32,
     },
     Clash {
         net: Net,
-        marks: Vec<u8>,
     },
     Compact {
         o: u32,
         k: u32,
-        list: Vec<u32>,
-        marks: Vec<u8>,
     },
     Mend {
         o: u32,
         k: u32,
-        words: Vec<u32>,
-        kept: Vec<u32>,
-        dropped: Vec<u32>,
-        marks: Vec<u8>,
     },
     Valuation {
         net: Net,
-        table: Vec<u8>,
-        marks: Vec<u8>,
     },
     Satisfies {
         o: u32,
         k: u32,
-        table: Vec<u8>,
         x: u32,
         y: u32,
         sign: u32,
     },
     Reason {
         asked: Asked,
-        scratch: Vec<u16>,
-        list: Vec<u16>,
     },
     ReasonCheck {
         asked: Asked,
-        list: Vec<u16>,
     },
     Proof {
         asked: Asked,
-        scratch: Vec<u16>,
-        list: Vec<u32>,
     },
     ProofCheck {
         asked: Asked,
-        list: Vec<u32>,
     },
     Explain {
         asked: Asked,
-        scratch: Vec<u16>,
-        list: Vec<u16>,
-        lines: Vec<u32>,
     },
     DerivationCheck {
         asked: Asked,
-        list: Vec<u32>,
     },
     Unit {
         net: Net,
-        program: Vec<u32>,
         budget: u32,
-        marks: Vec<u8>,
     },
-    File {
-        file: Vec<u8>,
-    },
-    Ask {
-        file: Vec<u8>,
-        text: Box<[u8; TEXT]>,
-    },
+    File,
+    Ask,
+}
+
+// The lists of a case: what its operation is asked about and the buffers that it is lent; the others are empty, and but for `ask` there is
+// no text.
+#[derive(Clone, PartialEq, Eq, Drop)]
+pub struct Lists {
+    // The words of the net; the axioms of a mending.
+    pub words: Vec<u32>,
+    pub pairs: Vec<u16>,
+    pub answers: Vec<u8>,
+    pub marks: Vec<u8>,
+    // A completion, a compacted list, a proof, a derivation or its lines, a program; the kept words of a mending.
+    pub list: Vec<u32>,
+    pub dropped: Vec<u32>,
+    pub yes: Vec<u64>,
+    pub no: Vec<u64>,
+    pub table: Vec<u8>,
+    pub scratch: Vec<u16>,
+    pub reason: Vec<u16>,
+    pub file: Vec<u8>,
+    pub text: Option<Box<[u8; TEXT]>>,
+}
+
+impl Lists {
+    // No lists and no text.
+    fn empty(alloc: Global) -> Lists {
+        Lists {
+            words: Vec::new(alloc),
+            pairs: Vec::new(alloc),
+            answers: Vec::new(alloc),
+            marks: Vec::new(alloc),
+            list: Vec::new(alloc),
+            dropped: Vec::new(alloc),
+            yes: Vec::new(alloc),
+            no: Vec::new(alloc),
+            table: Vec::new(alloc),
+            scratch: Vec::new(alloc),
+            reason: Vec::new(alloc),
+            file: Vec::new(alloc),
+            text: None,
+        }
+    }
 }
 
 impl Net {
-    // Reads a net.
-    fn read(fields: &mut Fields) -> Result<Net, Unread> {
-        Ok(Net {
-            o: fields.number()?,
-            k: fields.number()?,
-            words: fields.list(WORDS)?,
-            set: fields.number()?,
-        })
+    // Reads a net, and its words into the lists.
+    fn read(fields: &mut Fields, lists: &mut Lists) -> Result<Net, Unread> {
+        let o = fields.number()?;
+        let k = fields.number()?;
+        lists.words = fields.list(WORDS)?;
+        let set = fields.number()?;
+        Ok(Net { o, k, set })
     }
 }
 
 impl Asked {
     // Reads a net and a statement.
-    fn read(fields: &mut Fields) -> Result<Asked, Unread> {
+    fn read(fields: &mut Fields, lists: &mut Lists) -> Result<Asked, Unread> {
         Ok(Asked {
-            net: Net::read(fields)?,
+            net: Net::read(fields, lists)?,
             x: fields.number()?,
             y: fields.number()?,
             sign: fields.number()?,
@@ -185,219 +187,232 @@ impl Asked {
 
 impl Case {
     // Reads the fields of the operation of that name, which end the line.
-    pub fn read(name: &[u8], fields: &mut Fields) -> Result<Case, Unread> {
-        let case = Case::read_fields(name, fields)?;
+    pub fn read(name: &[u8], fields: &mut Fields) -> Result<(Case, Lists), Unread> {
+        let mut lists = Lists::empty(fields.alloc);
+        let case = Case::read_fields(name, fields, &mut lists)?;
         fields.end()?;
-        Ok(case)
+        Ok((case, lists))
     }
 
     // Reads the fields of the operation of that name, and no further. The borrow checker takes no function that reads those of all operations,
     // so there are four, and each hands on what it does not know.
-    fn read_fields(name: &[u8], fields: &mut Fields) -> Result<Case, Unread> {
+    fn read_fields(name: &[u8], fields: &mut Fields, lists: &mut Lists) -> Result<Case, Unread> {
         let case = match name {
             b"check_net" => Case::CheckNet {
-                net: Net::read(fields)?,
+                net: Net::read(fields, lists)?,
             },
             b"check_word" => Case::CheckWord {
                 o: fields.number()?,
                 k: fields.number()?,
                 word: fields.number()?,
             },
-            b"scan" => Case::Scan {
-                net: Net::read(fields)?,
-                start: fields.number()?,
-                budget: fields.number()?,
-                marks: fields.list(MARKS)?,
-            },
-            b"question" => Case::Question {
-                net: Net::read(fields)?,
-                x: fields.number()?,
-                y: fields.number()?,
-                marks: fields.list(MARKS)?,
-            },
-            b"questions" => Case::Questions {
-                net: Net::read(fields)?,
-                pairs: fields.list(MARKS)?,
-                answers: fields.list(MARKS)?,
-                marks: fields.list(MARKS)?,
-            },
-            b"clash" => Case::Clash {
-                net: Net::read(fields)?,
-                marks: fields.list(MARKS)?,
-            },
-            _ => return Case::read_lists(name, fields),
+            b"scan" => {
+                let net = Net::read(fields, lists)?;
+                let start = fields.number()?;
+                let budget = fields.number()?;
+                lists.marks = fields.list(MARKS)?;
+                Case::Scan { net, start, budget }
+            }
+            b"question" => {
+                let net = Net::read(fields, lists)?;
+                let x = fields.number()?;
+                let y = fields.number()?;
+                lists.marks = fields.list(MARKS)?;
+                Case::Question { net, x, y }
+            }
+            b"questions" => {
+                let net = Net::read(fields, lists)?;
+                lists.pairs = fields.list(MARKS)?;
+                lists.answers = fields.list(MARKS)?;
+                lists.marks = fields.list(MARKS)?;
+                Case::Questions { net }
+            }
+            b"clash" => {
+                let net = Net::read(fields, lists)?;
+                lists.marks = fields.list(MARKS)?;
+                Case::Clash { net }
+            }
+            _ => return Case::read_lists(name, fields, lists),
         };
         Ok(case)
     }
 
     // The same of those that write lists of words, rows or a valuation.
-    fn read_lists(name: &[u8], fields: &mut Fields) -> Result<Case, Unread> {
+    fn read_lists(name: &[u8], fields: &mut Fields, lists: &mut Lists) -> Result<Case, Unread> {
         let case = match name {
-            b"completion" => Case::Completion {
-                net: Net::read(fields)?,
-                marks: fields.list(MARKS)?,
-                list: fields.list(WORDS)?,
-            },
-            b"completion_by_rows" => Case::CompletionByRows {
-                net: Net::read(fields)?,
-                yes: fields.list(ROWS)?,
-                no: fields.list(ROWS)?,
-                list: fields.list(WORDS)?,
-            },
-            b"compact" => Case::Compact {
-                o: fields.number()?,
-                k: fields.number()?,
-                list: fields.list(WORDS)?,
-                marks: fields.list(MARKS)?,
-            },
-            b"mend" => Case::Mend {
-                o: fields.number()?,
-                k: fields.number()?,
-                words: fields.list(WORDS)?,
-                kept: fields.list(WORDS)?,
-                dropped: fields.list(WORDS)?,
-                marks: fields.list(MARKS)?,
-            },
-            b"valuation" => Case::Valuation {
-                net: Net::read(fields)?,
-                table: fields.list(TABLE)?,
-                marks: fields.list(MARKS)?,
-            },
-            _ => return Case::read_asked(name, fields),
+            b"completion" => {
+                let net = Net::read(fields, lists)?;
+                lists.marks = fields.list(MARKS)?;
+                lists.list = fields.list(WORDS)?;
+                Case::Completion { net }
+            }
+            b"completion_by_rows" => {
+                let net = Net::read(fields, lists)?;
+                lists.yes = fields.list(ROWS)?;
+                lists.no = fields.list(ROWS)?;
+                lists.list = fields.list(WORDS)?;
+                Case::CompletionByRows { net }
+            }
+            b"compact" => {
+                let o = fields.number()?;
+                let k = fields.number()?;
+                lists.list = fields.list(WORDS)?;
+                lists.marks = fields.list(MARKS)?;
+                Case::Compact { o, k }
+            }
+            b"mend" => {
+                let o = fields.number()?;
+                let k = fields.number()?;
+                lists.words = fields.list(WORDS)?;
+                lists.list = fields.list(WORDS)?;
+                lists.dropped = fields.list(WORDS)?;
+                lists.marks = fields.list(MARKS)?;
+                Case::Mend { o, k }
+            }
+            b"valuation" => {
+                let net = Net::read(fields, lists)?;
+                lists.table = fields.list(TABLE)?;
+                lists.marks = fields.list(MARKS)?;
+                Case::Valuation { net }
+            }
+            _ => return Case::read_asked(name, fields, lists),
         };
         Ok(case)
     }
 
     // The same of those that are asked about one statement.
-    fn read_asked(name: &[u8], fields: &mut Fields) -> Result<Case, Unread> {
+    fn read_asked(name: &[u8], fields: &mut Fields, lists: &mut Lists) -> Result<Case, Unread> {
         let case = match name {
-            b"answer_in_rows" => Case::AnswerInRows {
-                o: fields.number()?,
-                k: fields.number()?,
-                yes: fields.list(ROWS)?,
-                no: fields.list(ROWS)?,
-                x: fields.number()?,
-                y: fields.number()?,
-            },
-            b"satisfies" => Case::Satisfies {
-                o: fields.number()?,
-                k: fields.number()?,
-                table: fields.list(TABLE)?,
-                x: fields.number()?,
-                y: fields.number()?,
-                sign: fields.number()?,
-            },
-            b"reason" => Case::Reason {
-                asked: Asked::read(fields)?,
-                scratch: fields.list(REASON)?,
-                list: fields.list(REASON)?,
-            },
-            b"reason_check" => Case::ReasonCheck {
-                asked: Asked::read(fields)?,
-                list: fields.list(REASON)?,
-            },
-            b"proof" => Case::Proof {
-                asked: Asked::read(fields)?,
-                scratch: fields.list(REASON)?,
-                list: fields.list(WORDS)?,
-            },
-            b"proof_check" => Case::ProofCheck {
-                asked: Asked::read(fields)?,
-                list: fields.list(WORDS)?,
-            },
-            _ => return Case::read_others(name, fields),
+            b"answer_in_rows" => {
+                let o = fields.number()?;
+                let k = fields.number()?;
+                lists.yes = fields.list(ROWS)?;
+                lists.no = fields.list(ROWS)?;
+                let x = fields.number()?;
+                let y = fields.number()?;
+                Case::AnswerInRows { o, k, x, y }
+            }
+            b"satisfies" => {
+                let o = fields.number()?;
+                let k = fields.number()?;
+                lists.table = fields.list(TABLE)?;
+                let x = fields.number()?;
+                let y = fields.number()?;
+                let sign = fields.number()?;
+                Case::Satisfies { o, k, x, y, sign }
+            }
+            b"reason" => {
+                let asked = Asked::read(fields, lists)?;
+                lists.scratch = fields.list(REASON)?;
+                lists.reason = fields.list(REASON)?;
+                Case::Reason { asked }
+            }
+            b"reason_check" => {
+                let asked = Asked::read(fields, lists)?;
+                lists.reason = fields.list(REASON)?;
+                Case::ReasonCheck { asked }
+            }
+            b"proof" => {
+                let asked = Asked::read(fields, lists)?;
+                lists.scratch = fields.list(REASON)?;
+                lists.list = fields.list(WORDS)?;
+                Case::Proof { asked }
+            }
+            b"proof_check" => {
+                let asked = Asked::read(fields, lists)?;
+                lists.list = fields.list(WORDS)?;
+                Case::ProofCheck { asked }
+            }
+            _ => return Case::read_others(name, fields, lists),
         };
         Ok(case)
     }
 
     // The same of those about derivations, the unit and files.
-    fn read_others(name: &[u8], fields: &mut Fields) -> Result<Case, Unread> {
+    fn read_others(name: &[u8], fields: &mut Fields, lists: &mut Lists) -> Result<Case, Unread> {
         let case = match name {
-            b"explain" => Case::Explain {
-                asked: Asked::read(fields)?,
-                scratch: fields.list(REASON)?,
-                list: fields.list(REASON)?,
-                lines: fields.list(WORDS)?,
-            },
-            b"derivation_check" => Case::DerivationCheck {
-                asked: Asked::read(fields)?,
-                list: fields.list(WORDS)?,
-            },
-            b"unit" => Case::Unit {
-                net: Net::read(fields)?,
-                program: fields.list(WORDS)?,
-                budget: fields.number()?,
-                marks: fields.list(MARKS)?,
-            },
-            b"file" => Case::File {
-                file: fields.list(FILE)?,
-            },
-            b"ask" => Case::Ask {
-                file: fields.list(FILE)?,
-                text: fields.room()?,
-            },
+            b"explain" => {
+                let asked = Asked::read(fields, lists)?;
+                lists.scratch = fields.list(REASON)?;
+                lists.reason = fields.list(REASON)?;
+                lists.list = fields.list(WORDS)?;
+                Case::Explain { asked }
+            }
+            b"derivation_check" => {
+                let asked = Asked::read(fields, lists)?;
+                lists.list = fields.list(WORDS)?;
+                Case::DerivationCheck { asked }
+            }
+            b"unit" => {
+                let net = Net::read(fields, lists)?;
+                lists.list = fields.list(WORDS)?;
+                let budget = fields.number()?;
+                lists.marks = fields.list(MARKS)?;
+                Case::Unit { net, budget }
+            }
+            b"file" => {
+                lists.file = fields.list(FILE)?;
+                Case::File
+            }
+            b"ask" => {
+                lists.file = fields.list(FILE)?;
+                lists.text = Some(fields.room()?);
+                Case::Ask
+            }
             _ => return Err(Unread::Fault(Fault::Bad)),
         };
         Ok(case)
     }
 
     // Prints the buffers that the operation was lent to write in.
-    pub fn show_buffers<W: Write>(&self, out: &mut W) -> io::Result<()> {
+    pub fn show_buffers<W: Write>(self, lists: &Lists, out: &mut W) -> io::Result<()> {
         match self {
-            Case::Scan { marks, .. }
-            | Case::Question { marks, .. }
-            | Case::Clash { marks, .. }
-            | Case::Unit { marks, .. } => show_list(out, marks),
-            Case::Questions { answers, marks, .. } => {
-                show_list(out, answers)?;
-                show_list(out, marks)
+            Case::Scan { .. } | Case::Question { .. } | Case::Clash { .. } | Case::Unit { .. } => {
+                show_list(out, &lists.marks)
             }
-            Case::Completion { marks, list, .. } => {
-                show_list(out, marks)?;
-                show_list(out, list)
+            Case::Questions { .. } => {
+                show_list(out, &lists.answers)?;
+                show_list(out, &lists.marks)
             }
-            Case::CompletionByRows { yes, no, list, .. } => {
-                show_list(out, yes)?;
-                show_list(out, no)?;
-                show_list(out, list)
+            Case::Completion { .. } => {
+                show_list(out, &lists.marks)?;
+                show_list(out, &lists.list)
             }
-            Case::Compact { list, marks, .. } => {
-                show_list(out, list)?;
-                show_list(out, marks)
+            Case::CompletionByRows { .. } => {
+                show_list(out, &lists.yes)?;
+                show_list(out, &lists.no)?;
+                show_list(out, &lists.list)
             }
-            Case::Mend {
-                kept,
-                dropped,
-                marks,
-                ..
-            } => {
-                show_list(out, kept)?;
-                show_list(out, dropped)?;
-                show_list(out, marks)
+            Case::Compact { .. } => {
+                show_list(out, &lists.list)?;
+                show_list(out, &lists.marks)
             }
-            Case::Valuation { table, marks, .. } => {
-                show_list(out, table)?;
-                show_list(out, marks)
+            Case::Mend { .. } => {
+                show_list(out, &lists.list)?;
+                show_list(out, &lists.dropped)?;
+                show_list(out, &lists.marks)
             }
-            Case::Reason { scratch, list, .. } => {
-                show_list(out, scratch)?;
-                show_list(out, list)
+            Case::Valuation { .. } => {
+                show_list(out, &lists.table)?;
+                show_list(out, &lists.marks)
             }
-            Case::Proof { scratch, list, .. } => {
-                show_list(out, scratch)?;
-                show_list(out, list)
+            Case::Reason { .. } => {
+                show_list(out, &lists.scratch)?;
+                show_list(out, &lists.reason)
             }
-            Case::Explain {
-                scratch,
-                list,
-                lines,
-                ..
-            } => {
-                show_list(out, scratch)?;
-                show_list(out, list)?;
-                show_list(out, lines)
+            Case::Proof { .. } => {
+                show_list(out, &lists.scratch)?;
+                show_list(out, &lists.list)
             }
-            Case::Ask { text, .. } => show_list(out, text.as_slice()),
+            Case::Explain { .. } => {
+                show_list(out, &lists.scratch)?;
+                show_list(out, &lists.reason)?;
+                show_list(out, &lists.list)
+            }
+            Case::Ask => match &lists.text {
+                Some(text) => show_list(out, text.as_slice()),
+                None => Ok(()),
+            },
             Case::CheckNet { .. }
             | Case::CheckWord { .. }
             | Case::AnswerInRows { .. }
@@ -405,7 +420,7 @@ impl Case {
             | Case::ReasonCheck { .. }
             | Case::ProofCheck { .. }
             | Case::DerivationCheck { .. }
-            | Case::File { .. } => Ok(()),
+            | Case::File => Ok(()),
         }
     }
 }
@@ -418,8 +433,8 @@ mod tests {
     fn reads_a_file(rt: HostRuntime) {
         let mut fields = Fields::of(rt.alloc(), b" [1 2*3] ");
         match Case::read(b"file", &mut fields) {
-            Ok(Case::File { file }) => {
-                assert_eq!(rt; file.as_slice(), [1, 2, 2, 2].as_slice());
+            Ok((Case::File, lists)) => {
+                assert_eq!(rt; lists.file.as_slice(), [1, 2, 2, 2].as_slice());
             }
             _ => panic!(rt; "no case"),
         }
@@ -429,10 +444,13 @@ mod tests {
     fn reads_room_for_a_text(rt: HostRuntime) {
         let mut fields = Fields::of(rt.alloc(), b" [] 7");
         match Case::read(b"ask", &mut fields) {
-            Ok(Case::Ask { text, .. }) => {
-                assert_eq!(rt; text[0], 7);
-                assert_eq!(rt; text[TEXT - 1], 7);
-            }
+            Ok((Case::Ask, lists)) => match &lists.text {
+                Some(text) => {
+                    assert_eq!(rt; text[0], 7);
+                    assert_eq!(rt; text[TEXT - 1], 7);
+                }
+                None => panic!(rt; "no room"),
+            },
             _ => panic!(rt; "no case"),
         }
     }
