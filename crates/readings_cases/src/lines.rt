@@ -49,6 +49,24 @@ mod tests {
         Ok(())
     }
 
+    #[test]
+    fn keeps_one_byte_more_of_a_line_that_is_too_long(rt: HostRuntime) -> Result<(), Fail> {
+        let mut bytes = Vec::new(rt.alloc());
+        bytes.resize(LONGEST, b'a')?;
+        bytes.push(b'\n')?;
+        bytes.resize(3 * LONGEST, b'b')?;
+        bytes.extend_from_slice(b"\nask")?;
+        let mut input = BufReader::with_capacity(rt.alloc(), 4096, bytes.as_slice())?;
+        let mut line = Vec::new(rt.alloc());
+        assert!(rt; read_line(&mut input, &mut line)?);
+        assert_eq!(rt; line.len(), LONGEST);
+        assert!(rt; read_line(&mut input, &mut line)?);
+        assert_eq!(rt; line.len(), LONGEST + 1);
+        assert!(rt; read_line(&mut input, &mut line)?);
+        assert_eq!(rt; line.as_slice(), b"ask".as_slice());
+        Ok(())
+    }
+
     // An input whose second read is interrupted, and which has all of its bytes otherwise.
     #[derive(Drop)]
     struct Halting<'a> {

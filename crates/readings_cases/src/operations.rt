@@ -124,7 +124,7 @@ pub enum Case {
 // no text.
 #[derive(Clone, PartialEq, Eq, Drop)]
 pub struct Lists {
-    // The words of the net; the axioms of a mending.
+    // The words of the net, or those that are to be mended.
     pub words: Vec<u32>,
     pub pairs: Vec<u16>,
     pub answers: Vec<u8>,
