@@ -1,4 +1,7 @@
 // The operations that a case can ask: the numbers of each, and its lists: words, and the buffers as they are before.
+ghost use Rattle.std.specs.Prelude.{◌≡◌, IfOk, IsSome};
+ghost use Rattle.readings_cases.specs.declared.operations.Case.TheVariants.{Ask};
+
 use crate::fields::{Fault, Fields, Unread};
 use crate::show::show_list;
 use std::alloc::Global;
@@ -186,8 +189,10 @@ impl Asked {
 }
 
 impl Case {
-    // Reads the fields of the operation of that name, which end the line.
-    pub fn read(name: &[u8], fields: &mut Fields) -> Result<(Case, Lists), Unread> {
+    // Reads the fields of the operation of that name, which end the line. With `ask` there is a text.
+    pub fn read(name: &[u8], fields: &mut Fields) -> Result<(Case, Lists), Unread>
+        ensures { IfOk result (λ read. read.0 ≡ Ask → IsSome read.1.text) }
+    {
         let mut lists = Lists::empty(fields.alloc);
         let case = Case::read_fields(name, fields, &mut lists)?;
         fields.end()?;
@@ -196,7 +201,9 @@ impl Case {
 
     // Reads the fields of the operation of that name, and no further. The borrow checker takes no function that reads those of all operations,
     // so there are four, and each hands on what it does not know.
-    fn read_fields(name: &[u8], fields: &mut Fields, lists: &mut Lists) -> Result<Case, Unread> {
+    fn read_fields(name: &[u8], fields: &mut Fields, lists: &mut Lists) -> Result<Case, Unread>
+        ensures { IfOk result (λ case. case ≡ Ask → IsSome lists.new.text) }
+    {
         let case = match name {
             b"check_net" => Case::CheckNet {
                 net: Net::read(fields, lists)?,
@@ -238,7 +245,9 @@ impl Case {
     }
 
     // The same of those that write lists of words, rows or a valuation.
-    fn read_lists(name: &[u8], fields: &mut Fields, lists: &mut Lists) -> Result<Case, Unread> {
+    fn read_lists(name: &[u8], fields: &mut Fields, lists: &mut Lists) -> Result<Case, Unread>
+        ensures { IfOk result (λ case. case ≡ Ask → IsSome lists.new.text) }
+    {
         let case = match name {
             b"completion" => {
                 let net = Net::read(fields, lists)?;
@@ -281,7 +290,9 @@ impl Case {
     }
 
     // The same of those that are asked about one statement.
-    fn read_asked(name: &[u8], fields: &mut Fields, lists: &mut Lists) -> Result<Case, Unread> {
+    fn read_asked(name: &[u8], fields: &mut Fields, lists: &mut Lists) -> Result<Case, Unread>
+        ensures { IfOk result (λ case. case ≡ Ask → IsSome lists.new.text) }
+    {
         let case = match name {
             b"answer_in_rows" => {
                 let o = fields.number()?;
@@ -329,7 +340,9 @@ impl Case {
     }
 
     // The same of those about derivations, the unit and files.
-    fn read_others(name: &[u8], fields: &mut Fields, lists: &mut Lists) -> Result<Case, Unread> {
+    fn read_others(name: &[u8], fields: &mut Fields, lists: &mut Lists) -> Result<Case, Unread>
+        ensures { IfOk result (λ case. case ≡ Ask → IsSome lists.new.text) }
+    {
         let case = match name {
             b"explain" => {
                 let asked = Asked::read(fields, lists)?;
